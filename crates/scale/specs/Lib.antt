@@ -1,0 +1,11 @@
+pub mod Laws
+pub mod Refusals
+pub mod Ranked
+pub mod Words
+pub mod Points
+pub mod Pairs
+pub mod Texts
+pub mod Matches
+pub mod Spelled
+pub mod Numbered
+pub mod GradeTexts

@@ -1,0 +1,6 @@
+pub mod Sets
+pub mod Rules
+pub mod Founded
+pub mod Plain
+pub mod Statements
+pub mod Steps
