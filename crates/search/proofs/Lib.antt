@@ -1,0 +1,12 @@
+pub mod Bridge
+pub mod Passes
+pub mod Fixed
+pub mod Singles
+pub mod Forced
+pub mod Upper
+pub mod Split
+pub mod Reducts
+pub mod Objected
+pub mod Pivots
+pub mod Stables
+pub mod Listed

@@ -1,0 +1,5 @@
+pub mod Admissible
+pub mod Derived
+pub mod Narrowed
+pub mod Objection
+pub mod Listing
