@@ -67,9 +67,9 @@ pub has-without : (w A k x : ℕ) → A < 2 ^ w → k < w → has (bitAnd A (oth
 has-without w A k x l m =
     has-and A (others w (2 ^ k)) x
     ∙ ⊎-elim
-      (λ h. ap (λ t. has A x && t) (has-others w (2 ^ k) x h (pow-lt m) ∙ ap not (has-one k x)))
-      (λ h. and-none (has A x) _ (has-past w A x l h) ∙ sym (and-none (has A x) _ (has-past w A x l h)))
-      (cases-lt x w)
+    (λ h. ap (λ t. has A x && t) (has-others w (2 ^ k) x h (pow-lt m) ∙ ap not (has-one k x)))
+    (λ h. and-none (has A x) _ (has-past w A x l h) ∙ sym (and-none (has A x) _ (has-past w A x l h)))
+    (cases-lt x w)
 
 -- a clause on an Option, made weaker
 pub option-weaker : {X : Type 0} (o : Option X) (P P′ : Type 0) (Q Q′ : X → Type 0) → Cases o P Q → (P → P′) → ((x : X) → Q x → Q′ x) → Cases o P′ Q′
@@ -86,6 +86,7 @@ without-less A B x i is = agree-lt x B A
     and-true : (b : Bool) → (b && true) ≡ b
     and-true true = refl
     and-true false = refl
+
     and-false : (b : Bool) → (b && false) ≡ false
     and-false true = refl
     and-false false = refl

@@ -1,0 +1,68 @@
+-- The greatest grade of a broken rule, one rule after the other.
+use mathlib.Core.Path.{_≡_, refl, sym, ap, ap₂, subst, _∙_}
+use mathlib.Core.Bool.{Bool, true, false, not, cond, _&&_}
+use mathlib.Core.List.{List, [], _∷_, _++_}
+use mathlib.Core.Logic.{_⊎_, inl, inr, ⊎-elim}
+use Prim.Native.Nat.{ℕ, _+_, _<_, _≤_}
+use lib.ListN.{length, getD, take}
+use Rattle.std.specs.Orderings.{Decides}
+use Rattle.std.proofs.shelf.Lists.{take-all}
+use Rattle.std.proofs.shelf.Tests.{cases-bool, and-from, and-parts, not-from-false, not-true, both-ways}
+use Rattle.scale.specs.Laws.{Order, Scaled, greater}
+use Rattle.semantics.specs.Sets.{has, within, disjoint}
+use Rattle.semantics.specs.Rules.{Rule, positive, reduct, breaks, greatestOf, worst}
+use Rattle.semantics.specs.Plain.{weigh, gradeIn, weighted, Broken}
+use Rattle.semantics.specs.declared.rule.PlainRule.{PlainRule}
+use Rattle.semantics.proofs.Sets.{decides-within, decides-disjoint}
+use Rattle.grading.proofs.Fronts.{weighted-more, reduct-kept, reduct-dropped, greatest-passed, greatest-failed}
+
+-- a broken rule stands in the reduct, and is broken there; any other is dropped, or is not broken
+module _ {G : Type 0} (A : ℕ) (r : PlainRule) (g : G) where
+  pub broken-stands : Broken A r → (disjoint (r .neg) A ≡ true) × (breaks A (positive (weigh r g)) ≡ true)
+  unfolding breaks positive
+  broken-stands b =
+      (decides-disjoint (r .neg) A .1 (b .0), and-from (within (r .pos) A) _ (decides-within (r .pos) A .1 (b .1)) (not-from-false _ (b .2)))
+
+  pub stands-broken : disjoint (r .neg) A ≡ true → breaks A (positive (weigh r g)) ≡ true → Broken A r
+  unfolding breaks positive
+  stands-broken d b =
+      let p = and-parts (within (r .pos) A) _ b in
+      (decides-disjoint (r .neg) A .0 d, decides-within (r .pos) A .0 (p .0), not-true _ (p .1))
+
+module _ {G : Type 0} (o : Order G) (A : ℕ) (P : List (Rule G)) (r : PlainRule) (g : G) where
+  pub worst-raised : Broken A r → worst o A (reduct A (P ++ weigh r g ∷ [])) ≡ greater o g (worst o A (reduct A P))
+  unfolding worst positive
+  worst-raised b =
+      let p = broken-stands A r g b in
+      ap (worst o A) (reduct-kept A P (weigh r g) (p .0)) ∙ greatest-passed o (breaks A) (λ q. q .grade) (reduct A P) (positive (weigh r g)) (p .1)
+
+  pub worst-kept : (Broken A r → ⊥) → worst o A (reduct A (P ++ weigh r g ∷ [])) ≡ worst o A (reduct A P)
+  unfolding worst
+  worst-kept none =
+      ⊎-elim
+      (λ d. ap (worst o A) (reduct-kept A P (weigh r g) d) ∙ greatest-failed o (breaks A) (λ q. q .grade) (reduct A P) (positive (weigh r g)) (⊎-elim (λ b. absurd (none (stands-broken A r g d b))) (λ b. b) (cases-bool (breaks A (positive (weigh r g))))))
+      (λ d. ap (worst o A) (reduct-dropped A P (weigh r g) d))
+      (cases-bool (disjoint (r .neg) A))
+
+-- the loop over the rules
+module _ {G R : Type 0} (s : Scaled G R) (A : ℕ) (rules : List PlainRule) (rows : List R) where
+  abbrev pub Worst : ℕ → G → Type 0
+  Worst i g = g ≡ worst (s .order) A (reduct A (weighted s (take i rules) rows))
+
+  module _ (i : ℕ) (g : G) (inv : Worst i g) (r : PlainRule) (l : i < length rules) (read : r ≡ getD rules i r) where
+    front : weighted s (take (i + 1) rules) rows ≡ weighted s (take i rules) rows ++ weigh r (gradeIn s rows i) ∷ []
+    front = weighted-more s rules rows i r l read
+
+    pub worst-more : Broken A r → (own new : G) → own ≡ gradeIn s rows i → new ≡ greater (s .order) own g → Worst (i + 1) new
+    worst-more b own new e n =
+        n ∙ ap₂ (greater (s .order)) e inv ∙ sym (ap (λ (Q : List (Rule G)). worst (s .order) A (reduct A Q)) front ∙ worst-raised (s .order) A (weighted s (take i rules) rows) r (gradeIn s rows i) b)
+
+    pub worst-past : (Broken A r → ⊥) → Worst (i + 1) g
+    worst-past none = inv ∙ sym (ap (λ (Q : List (Rule G)). worst (s .order) A (reduct A Q)) front ∙ worst-kept (s .order) A (weighted s (take i rules) rows) r (gradeIn s rows i) none)
+
+  pub worst-none : (g : G) → g ≡ s .order .bottom → Worst 0 g
+  unfolding worst weighted reduct greatestOf
+  worst-none g e = e
+
+  pub worst-all : (i : ℕ) (g : G) → length rules ≤ i → Worst i g → g ≡ worst (s .order) A (reduct A (weighted s rules rows))
+  worst-all i g l inv = inv ∙ ap (λ (q : List PlainRule). worst (s .order) A (reduct A (weighted s q rows))) (take-all i rules l)
