@@ -1,0 +1,3 @@
+//! Rule bases worked out in tests, on points, words and pairs.
+#[cfg(test)]
+mod tests;
