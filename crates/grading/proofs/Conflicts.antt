@@ -1,136 +1,77 @@
 -- The set that the ranks object to least is one that the grades object to least.
 use mathlib.Core.Path.{_≡_, refl, sym, ap, ap₂, subst, _∙_}
-use mathlib.Core.Bool.{Bool, true, false, not, cond, _&&_, true≢false}
-use mathlib.Core.List.{List, [], _∷_, map}
-use mathlib.Core.Logic.{_⊎_, inl, inr, ⊎-elim}
-use Prim.Native.Nat.{ℕ, zero, suc, _+_, _^_, _<_, _≤_}
+use mathlib.Core.Bool.{Bool, true, false, true≢false}
+use mathlib.Core.List.{List, [], _∷_}
+use mathlib.Core.Logic.{⊎-elim}
+use Prim.Native.Nat.{ℕ, _^_, _<_, _≤_}
 use native.Mathlib.Omega.{arith}
-use lib.ListN.{length, getD, set}
+use lib.ListN.{length, getD}
 use Rattle.std.specs.shelf.Lists.{Has}
-use Rattle.std.proofs.shelf.Lists.{map-set, set-getD, getD-map, length-map, getD-read}
-use Rattle.std.proofs.shelf.Tests.{cases-bool, cond-true, cond-false, and-parts, and-from, not-true, not-from-false}
+use Rattle.std.proofs.shelf.Lists.{getD-map}
+use Rattle.std.proofs.shelf.Tests.{cases-bool, cond-true, cond-false}
 use Rattle.scale.specs.Laws.{Order, Scaled}
-use Rattle.semantics.specs.Sets.{width, In, Out, Sub, Apart, disjoint}
-use Rattle.semantics.specs.Rules.{Rule, Among, positive, reduct, breaks, founded, greatestOf, worst, objection, conflict}
-use Rattle.semantics.specs.Plain.{weigh, gradeIn, weighted, byRank, held, Broken}
+use Rattle.semantics.specs.Sets.{width}
+use Rattle.semantics.specs.Rules.{Rule, positive, reduct, breaks, founded, worst, objection, conflict}
+use Rattle.semantics.specs.Plain.{weigh, gradeIn, gradeOf, weighted, byPlace, byRank, Broken}
 use Rattle.semantics.specs.declared.rule.PlainRule.{PlainRule}
-use Rattle.semantics.proofs.Sets.{decides-disjoint, has-none}
+use Rattle.semantics.proofs.Sets.{has-none}
 use Rattle.semantics.proofs.Cuts.{Cut, le-by-cuts}
 use Rattle.semantics.proofs.Bests.{greatest-in, greatest-out}
-use Rattle.semantics.proofs.Reducts.{reduct-in, reduct-out}
 use Rattle.semantics.proofs.Alike.{alike-weighted, alike-reduct, alike-founded}
 use Rattle.semantics.proofs.Least.{conflict-least}
+use Rattle.search.proofs.Reducts.{broken-in, broken-out}
 use Rattle.search.specs.Admissible.{NoSuch, Fits, Candidate, LeastObjected}
-use Rattle.grading.specs.Ranks.{rankOf, ranks, ranksOf}
-use Rattle.grading.proofs.Ranking.{rank-keeps, ranks-at}
-use Rattle.grading.proofs.Worst.{broken-stands, stands-broken}
-
--- ---- the weighted rules, place by place
-
--- a rule at a place, with the grade that the rows give it there
-record Placed {G R : Type 0} (s : Scaled G R) (rules : List PlainRule) (rows : List R) (r : Rule G) : Type 0 where
-  place : ℕ
-  inside : place < length rules
-  rule : PlainRule
-  read : getD rules place rule ≡ rule
-  is : r ≡ weigh rule (gradeIn s rows place)
-
-later : {G R : Type 0} (s : Scaled G R) (q : PlainRule) (g : R) (rules : List PlainRule) (rows : List R) (r : Rule G) → Placed s rules rows r → Placed s (q ∷ rules) (g ∷ rows) r
-later s q g rules rows r p = record { place = suc (p .place); inside = omega (arith, p .inside); rule = p .rule; read = p .read; is = p .is }
-
-later-none : {G R : Type 0} (s : Scaled G R) (q : PlainRule) (rules : List PlainRule) (r : Rule G) → Placed s rules [] r → Placed s (q ∷ rules) [] r
-later-none s q rules r p = record { place = suc (p .place); inside = omega (arith, p .inside); rule = p .rule; read = p .read; is = p .is }
+use Rattle.grading.specs.Ranks.{grades, rankAmong, ranks, ranksOf}
+use Rattle.grading.proofs.Ranking.{rank-keeps, grade-among, ranks-at, same-length, same-place, same-grades}
 
 module _ {G R : Type 0} (s : Scaled G R) where
-  weighted-out : (rules : List PlainRule) (rows : List R) (r : Rule G) → Among r (weighted s rules rows) → Placed s rules rows r
-  unfolding weighted
-  weighted-out [] rows r i = absurd i
-  weighted-out (q ∷ rules) [] r (inl e) = record { place = 0; inside = omega arith; rule = q; read = refl; is = e ∙ ap (weigh q) (sym (s .reads (s .order .bottom))) }
-  weighted-out (q ∷ rules) [] r (inr i) = later-none s q rules r (weighted-out rules [] r i)
-  weighted-out (q ∷ rules) (g ∷ gs) r (inl e) = record { place = 0; inside = omega arith; rule = q; read = refl; is = e }
-  weighted-out (q ∷ rules) (g ∷ gs) r (inr i) = later s q g rules gs r (weighted-out rules gs r i)
-
-  weighted-in : (rules : List PlainRule) (rows : List R) (i : ℕ) (q : PlainRule) → i < length rules → getD rules i q ≡ q → Among (weigh q (gradeIn s rows i)) (weighted s rules rows)
-  unfolding weighted
-  weighted-in [] rows i q l e = absurd (omega arith)
-  weighted-in (p ∷ rules) [] zero q l e = inl (ap₂ weigh (sym e) (s .reads (s .order .bottom)))
-  weighted-in (p ∷ rules) (g ∷ gs) zero q l e = inl (ap (λ (x : PlainRule). weigh x (s .readOf g)) (sym e))
-  weighted-in (p ∷ rules) [] (suc i) q l e = inr (weighted-in rules [] i q (omega arith) e)
-  weighted-in (p ∷ rules) (g ∷ gs) (suc i) q l e = inr (weighted-in rules gs i q (omega arith) e)
-
-  -- rules that are the same but for their ranks have the same meaning
-  pub weighted-same : (xs ys : List PlainRule) (rows : List R) → held xs ≡ held ys → weighted s xs rows ≡ weighted s ys rows
+  -- rules that differ in their ranks alone mean the same
+  pub weighted-same : (xs ys : List PlainRule) (rows : List R) → byPlace xs ≡ byPlace ys → weighted s xs rows ≡ weighted s ys rows
   unfolding weighted
   weighted-same [] [] rows e = refl
   weighted-same [] (y ∷ ys) rows e = absurd (omega (arith, ap length e))
   weighted-same (x ∷ xs) [] rows e = absurd (omega (arith, ap length e))
-  weighted-same (x ∷ xs) (y ∷ ys) [] e =
-      let p : weigh x true ≡ weigh y true = cc in
-      let q : held xs ≡ held ys = cc in
-      ap₂ (λ (r : Rule Bool) (P : List (Rule G)). record { head = r .head; pos = r .pos; neg = r .neg; grade = s .order .bottom } ∷ P) p (weighted-same xs ys [] q)
-  weighted-same (x ∷ xs) (y ∷ ys) (g ∷ gs) e =
-      let p : weigh x true ≡ weigh y true = cc in
-      let q : held xs ≡ held ys = cc in
-      ap₂ (λ (r : Rule Bool) (P : List (Rule G)). record { head = r .head; pos = r .pos; neg = r .neg; grade = s .readOf g } ∷ P) p (weighted-same xs ys gs q)
+  weighted-same (x ∷ xs) (y ∷ ys) rows e =
+      let p : weigh x (x .place) ≡ weigh y (y .place) = cc in
+      let q : byPlace xs ≡ byPlace ys = cc in
+      ap₂ (λ (r : Rule ℕ) (P : List (Rule G)). record { head = r .head; pos = r .pos; neg = r .neg; grade = gradeIn s rows (r .grade) } ∷ P) p (weighted-same xs ys rows q)
 
   -- foundedness does not look at grades or ranks
   pub founded-same : (w A : ℕ) (rules : List PlainRule) (rows : List R) → founded w (reduct A (weighted s rules rows)) A ≡ founded w (reduct A (byRank rules)) A
   founded-same w A rules rows =
       alike-founded w (reduct A (weighted s rules rows)) (reduct A (byRank rules)) (alike-reduct A (weighted s rules rows) (byRank rules) (alike-weighted s (λ r. r .rank) rules rows)) A
 
-  -- ---- broken rules
+-- every rule has the rank of its grade
+abbrev pub Ranked : {G R : Type 0} → Scaled G R → List R → List PlainRule → Type 0
+Ranked s rows rules = (q : PlainRule) → Has rules q → q .rank ≡ rankAmong (s .order) (grades s rows rules) (gradeOf s rows q)
 
-  module _ (rules : List PlainRule) (rows : List R) (A : ℕ) where
-    -- a rule of the reduct by A that A breaks stands at a place, and is broken there
-    broken-out : (r : Rule G) → Among r (reduct A (weighted s rules rows)) → breaks A r ≡ true → (i : ℕ) × (q : PlainRule) × Has rules q × (i < length rules) × (getD rules i q ≡ q) × Broken A q × (r .grade ≡ gradeIn s rows i)
-    unfolding positive
-    broken-out r among b =
-        let a = reduct-out A (weighted s rules rows) r among in
-        let p = weighted-out rules rows (a .0) (a .1) in
-        let is : r ≡ positive (weigh (p .rule) (gradeIn s rows (p .place))) = a .3 ∙ ap positive (p .is) in
-        let apart : Apart (p .rule .neg) A = subst (λ (q : Rule G). Apart (q .neg) A) (p .is) (a .2) in (
-          p .place,
-          p .rule,
-          (p .place, p .inside, λ d. sym (getD-read rules (p .place) (p .rule) (p .inside) (sym (p .read)) d)),
-          p .inside,
-          p .read,
-          stands-broken A (p .rule) (gradeIn s rows (p .place)) (decides-disjoint (p .rule .neg) A .1 apart) (sym (ap (breaks A) is) ∙ b),
-          ap (λ (q : Rule G). q .grade) is,
-        )
+pub ranked-there : {G R : Type 0} (s : Scaled G R) (rows : List R) (xs ys : List PlainRule) → byPlace ys ≡ byPlace xs → ranks ys ≡ ranksOf s rows xs → Ranked s rows ys
+ranked-there s rows xs ys e r q h =
+    let i = h .0 in
+    let here : getD ys i q ≡ q = h .2 q in
+    ap (λ (x : PlainRule). x .rank) (sym here) ∙ sym (getD-map (λ (x : PlainRule). x .rank) ys i q 0 (h .1))
+    ∙ ap (λ (ns : List ℕ). getD ns i 0) r
+    ∙ ranks-at s rows xs i q (omega (arith, h .1, same-length ys xs e)) (same-place ys xs e i q (h .1) (sym here))
+    ∙ ap (λ (gs : List _). rankAmong (s .order) gs (gradeOf s rows q)) (same-grades s rows xs ys (sym e))
 
-    -- and the other way round
-    broken-in : (i : ℕ) (q : PlainRule) → i < length rules → getD rules i q ≡ q → Broken A q → Among (positive (weigh q (gradeIn s rows i))) (reduct A (weighted s rules rows)) × (breaks A (positive (weigh q (gradeIn s rows i))) ≡ true)
-    broken-in i q l e b =
-        (reduct-in A (weighted s rules rows) (weigh q (gradeIn s rows i)) (weighted-in rules rows i q l e) (b .0), broken-stands A q (gradeIn s rows i) b .1)
-
--- ---- the conflict
-
-module _ {G R : Type 0} (s : Scaled G R) (rules : List PlainRule) (rows : List R) (ranked : ranks rules ≡ ranksOf (s .order) (gradeIn s rows) (length rules)) where
+module _ {G R : Type 0} (s : Scaled G R) (rules : List PlainRule) (rows : List R) (ranked : Ranked s rows rules) where
   abbrev P : List (Rule G)
   P = weighted s rules rows
 
   abbrev held-against : ℕ → G
   held-against A = objection (s .order) width (reduct A P) A
 
-  rank-at : (i : ℕ) (q : PlainRule) → i < length rules → getD rules i q ≡ q → q .rank ≡ rankOf (s .order) (gradeIn s rows) (length rules) i
-  rank-at i q l e =
-      ap (λ (r : PlainRule). r .rank) (sym e) ∙ sym (getD-map (λ (r : PlainRule). r .rank) rules i q 0 l)
-      ∙ ap (λ (ns : List ℕ). getD ns i 0) ranked ∙ ranks-at (s .order) (gradeIn s rows) (length rules) i l
-
   -- the worst rule that A breaks is no worse than the worst that B breaks
   worst-least : (A B : ℕ) → ((q : PlainRule) → Has rules q → Broken A q → (p : PlainRule) × Has rules p × Broken B p × (q .rank ≤ p .rank)) → s .order .atMost (worst (s .order) A (reduct A P)) (worst (s .order) B (reduct B P)) ≡ true
-  unfolding worst positive
+  unfolding worst weighted positive
   worst-least A B least = le-by-cuts (s .order) _ _ λ h cut t.
       let a = greatest-out (s .order) h cut (breaks A) (λ r. r .grade) (reduct A P) t in
-      let b = broken-out s rules rows A (a .0) (a .1) (a .2) in
-      let p = least (b .1) (b .2) (b .5) in
-      let j = p .1 .0 in
-      let inside : j < length rules = p .1 .1 in
-      let read : getD rules j (p .0) ≡ p .0 = p .1 .2 (p .0) in
-      let low : rankOf (s .order) (gradeIn s rows) (length rules) (b .0) ≤ rankOf (s .order) (gradeIn s rows) (length rules) j = omega (arith, p .3, rank-at (b .0) (b .1) (b .3) (b .4), rank-at j (p .0) inside read) in
-      let up = cut .up (gradeIn s rows (b .0)) (gradeIn s rows j) (rank-keeps (s .order) (gradeIn s rows) (length rules) (b .0) j inside low) (ap h (sym (b .6)) ∙ a .3) in
-      let c = broken-in s rules rows B j (p .0) inside read (p .2) in
-      greatest-in (s .order) h cut (breaks B) (λ r. r .grade) (reduct B P) (positive (weigh (p .0) (gradeIn s rows j))) (c .0) (c .1) up
+      let b = broken-out (gradeOf s rows) A rules (a .0) (a .1) (a .2) in
+      let p = least (b .0) (b .1) (b .2) in
+      let low : rankAmong (s .order) (grades s rows rules) (gradeOf s rows (b .0)) ≤ rankAmong (s .order) (grades s rows rules) (gradeOf s rows (p .0)) = omega (arith, p .3, ranked (b .0) (b .1), ranked (p .0) (p .1)) in
+      let up = cut .up (gradeOf s rows (b .0)) (gradeOf s rows (p .0)) (rank-keeps (s .order) (grades s rows rules) (gradeOf s rows (b .0)) (gradeOf s rows (p .0)) (grade-among s rows rules (p .0) (p .1)) low) (ap h (sym (b .3)) ∙ a .3) in
+      let c = broken-in (gradeOf s rows) B rules (p .0) (p .1) (p .2) in
+      greatest-in (s .order) h cut (breaks B) (λ r. r .grade) (reduct B P) (positive (weigh (p .0) (gradeOf s rows (p .0)))) (c .0) (c .1) up
 
   -- every set fits where nothing is asked
   free : (A : ℕ) → Fits 0 0 A
@@ -168,8 +109,3 @@ module _ {G R : Type 0} (s : Scaled G R) (rules : List PlainRule) (rows : List R
   no-conflict none =
       let at = conflict-least (s .order) width P .attained 0 (omega arith) refl in
       ⊎-elim (λ t. absurd (none (at .0) (candidate (at .0) (at .1) t))) (λ t. sym (against-unfounded (at .0) t) ∙ at .3) (cases-bool (founded width (reduct (at .0) P) (at .0)))
-
--- rules that differ in their ranks alone are as many
-pub ranked-there : {G : Type 0} (o : Order G) (f : ℕ → G) (xs ys : List PlainRule) → held ys ≡ held xs → ranks ys ≡ ranksOf o f (length xs) → ranks ys ≡ ranksOf o f (length ys)
-ranked-there o f xs ys e r =
-    r ∙ ap (ranksOf o f) (sym (length-map xs (λ (q : PlainRule). weigh q true)) ∙ sym (ap length e) ∙ length-map ys (λ (q : PlainRule). weigh q true))

@@ -11,7 +11,7 @@ use Rattle.std.proofs.shelf.Tests.{cases-bool, and-from, and-parts, not-from-fa
 use Rattle.scale.specs.Laws.{Order, Scaled, greater}
 use Rattle.semantics.specs.Sets.{has, within, disjoint}
 use Rattle.semantics.specs.Rules.{Rule, positive, reduct, breaks, greatestOf, worst}
-use Rattle.semantics.specs.Plain.{weigh, gradeIn, weighted, Broken}
+use Rattle.semantics.specs.Plain.{weigh, gradeOf, weighted, Broken}
 use Rattle.semantics.specs.declared.rule.PlainRule.{PlainRule}
 use Rattle.semantics.proofs.Sets.{decides-within, decides-disjoint}
 use Rattle.grading.proofs.Fronts.{weighted-more, reduct-kept, reduct-dropped, greatest-passed, greatest-failed}
@@ -50,15 +50,15 @@ module _ {G R : Type 0} (s : Scaled G R) (A : ℕ) (rules : List PlainRule) (row
   Worst i g = g ≡ worst (s .order) A (reduct A (weighted s (take i rules) rows))
 
   module _ (i : ℕ) (g : G) (inv : Worst i g) (r : PlainRule) (l : i < length rules) (read : r ≡ getD rules i r) where
-    front : weighted s (take (i + 1) rules) rows ≡ weighted s (take i rules) rows ++ weigh r (gradeIn s rows i) ∷ []
+    front : weighted s (take (i + 1) rules) rows ≡ weighted s (take i rules) rows ++ weigh r (gradeOf s rows r) ∷ []
     front = weighted-more s rules rows i r l read
 
-    pub worst-more : Broken A r → (own new : G) → own ≡ gradeIn s rows i → new ≡ greater (s .order) own g → Worst (i + 1) new
+    pub worst-more : Broken A r → (own new : G) → own ≡ gradeOf s rows r → new ≡ greater (s .order) own g → Worst (i + 1) new
     worst-more b own new e n =
-        n ∙ ap₂ (greater (s .order)) e inv ∙ sym (ap (λ (Q : List (Rule G)). worst (s .order) A (reduct A Q)) front ∙ worst-raised (s .order) A (weighted s (take i rules) rows) r (gradeIn s rows i) b)
+        n ∙ ap₂ (greater (s .order)) e inv ∙ sym (ap (λ (Q : List (Rule G)). worst (s .order) A (reduct A Q)) front ∙ worst-raised (s .order) A (weighted s (take i rules) rows) r (gradeOf s rows r) b)
 
     pub worst-past : (Broken A r → ⊥) → Worst (i + 1) g
-    worst-past none = inv ∙ sym (ap (λ (Q : List (Rule G)). worst (s .order) A (reduct A Q)) front ∙ worst-kept (s .order) A (weighted s (take i rules) rows) r (gradeIn s rows i) none)
+    worst-past none = inv ∙ sym (ap (λ (Q : List (Rule G)). worst (s .order) A (reduct A Q)) front ∙ worst-kept (s .order) A (weighted s (take i rules) rows) r (gradeOf s rows r) none)
 
   pub worst-none : (g : G) → g ≡ s .order .bottom → Worst 0 g
   unfolding worst weighted reduct greatestOf

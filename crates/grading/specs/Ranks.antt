@@ -1,24 +1,25 @@
 -- Ranks in place of grades.
-use mathlib.Core.Bool.{Bool, not, cond}
+use mathlib.Core.Bool.{not}
 use mathlib.Core.List.{List, map}
-use Prim.Native.Nat.{ℕ, zero, suc, _+_}
-use Rattle.std.specs.Iters.{counting}
-use Rattle.scale.specs.Laws.{Order}
+use Prim.Native.Nat.{ℕ}
+use lib.ListN.{length}
+use Rattle.scale.specs.Laws.{Order, Scaled}
+use Rattle.semantics.specs.Rules.{those}
+use Rattle.semantics.specs.Plain.{gradeOf}
 use Rattle.semantics.specs.declared.rule.PlainRule.{PlainRule}
 
--- how many numbers below n pass the test
-unfoldable pub tally : ℕ → (ℕ → Bool) → ℕ
-tally zero p = 0
-tally (suc n) p = tally n p + cond (p n) 1 0
+-- the grades of the rules
+abbrev pub grades : {G R : Type 0} → Scaled G R → List R → List PlainRule → List G
+grades s rows rules = map (gradeOf s rows) rules
 
--- the rank of the grade at k among n grades: how many of them are below it
-unfoldable pub rankOf : {G : Type 0} → Order G → (ℕ → G) → ℕ → ℕ → ℕ
-rankOf o f n k = tally n (λ i. not (o .atMost (f k) (f i)))
+-- the rank of a grade among others: how many of them are below it
+unfoldable pub rankAmong : {G : Type 0} → Order G → List G → G → ℕ
+rankAmong o gs g = length (those (λ x. not (o .atMost g x)) gs)
 
--- the ranks of the rules
+-- the ranks that the rules have
 abbrev pub ranks : List PlainRule → List ℕ
 ranks rules = map (λ r. r .rank) rules
 
--- the ranks of n grades
-unfoldable pub ranksOf : {G : Type 0} → Order G → (ℕ → G) → ℕ → List ℕ
-ranksOf o f n = map (rankOf o f n) (counting 0 n)
+-- the ranks of their grades
+unfoldable pub ranksOf : {G R : Type 0} → Scaled G R → List R → List PlainRule → List ℕ
+ranksOf s rows rules = map (rankAmong (s .order) (grades s rows rules)) (grades s rows rules)

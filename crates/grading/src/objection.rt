@@ -17,9 +17,9 @@ fn worst<S: Scale>(rules: &[PlainRule], rows: &[S::Row], set: AtomSet) -> S
     ensures { λ r. ⌜ r ≡ worst (S·Scale .scale .order) set (reduct set (weighted (S·Scale .scale) (now (rules .entry)) (now (rows .entry)))) ⌝ }
 {
     let mut grade = S::bottom();
-    for (i, rule) in rules.iter().enumerate() {
+    for rule in rules {
         if is_broken(rule, set) {
-            grade = greater_of(grade_at::<S>(rows, i), grade);
+            grade = greater_of(grade_at::<S>(rows, rule.place), grade);
         }
     }
     grade

@@ -29,13 +29,14 @@ const BUOY: AtomSet = 2;
 
 const VESSEL: AtomSet = 4;
 
-/// A rule of the sample; none where the head is no atom.
-fn rule(head: usize, pos: AtomSet, neg: AtomSet) -> Option<PlainRule> {
+/// A rule of the sample, with its grade at a place; none where the head is no atom.
+fn rule(place: usize, head: usize, pos: AtomSet, neg: AtomSet) -> Option<PlainRule> {
     let head = Atom::from_number(head)?;
     Some(PlainRule {
         head,
         pos,
         neg,
+        place,
         rank: 0,
     })
 }
@@ -43,10 +44,10 @@ fn rule(head: usize, pos: AtomSet, neg: AtomSet) -> Option<PlainRule> {
 /// The sample: 100 echo. 80 buoy :- echo, not vessel. 50 vessel :- echo, not buoy. 30 track :- vessel.
 fn sample() -> Option<[PlainRule; 4]> {
     Some([
-        rule(0, 0, 0)?,
-        rule(1, ECHO, VESSEL)?,
-        rule(2, ECHO, BUOY)?,
-        rule(3, VESSEL, 0)?,
+        rule(0, 0, 0, 0)?,
+        rule(1, 1, ECHO, VESSEL)?,
+        rule(2, 2, ECHO, BUOY)?,
+        rule(3, 3, VESSEL, 0)?,
     ])
 }
 

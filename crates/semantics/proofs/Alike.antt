@@ -7,7 +7,7 @@ use Prim.Native.Nat.{ℕ, zero, suc, _<_, _^_}
 use Rattle.scale.specs.Laws.{Order, Scaled, above}
 use Rattle.semantics.specs.Sets.{has, within, disjoint, adding}
 use Rattle.semantics.specs.Rules.{Rule, Among, those, positive, reduct, applicable, breaks, heads, derived, founded, stable}
-use Rattle.semantics.specs.Plain.{weigh, weighted, truth}
+use Rattle.semantics.specs.Plain.{gradeOf, weigh, weighted, truth}
 use Rattle.semantics.specs.Statements.{Fits, Graded, asTrue}
 use Rattle.semantics.specs.declared.rule.PlainRule.{PlainRule}
 use Rattle.semantics.proofs.Sets.{same-truth}
@@ -43,9 +43,7 @@ alike-weigh f g (r ∷ rs) = (record { head = refl; pos = refl; neg = refl }, al
 
 pub alike-weighted : {G R H : Type 0} (s : Scaled G R) (g : PlainRule → H) (rs : List PlainRule) (rows : List R) → Alike (weighted s rs rows) (map (λ r. weigh r (g r)) rs)
 unfolding weighted
-alike-weighted s g [] rows = tt
-alike-weighted s g (r ∷ rs) [] = (record { head = refl; pos = refl; neg = refl }, alike-weighted s g rs [])
-alike-weighted s g (r ∷ rs) (x ∷ rows) = (record { head = refl; pos = refl; neg = refl }, alike-weighted s g rs rows)
+alike-weighted s g rs rows = alike-weigh (gradeOf s rows) g rs
 
 -- a rule of one has its twin in the other
 pub twin-of : {G H : Type 0} (P : List (Rule G)) (Q : List (Rule H)) → Alike P Q → (r : Rule G) → Among r P → (s : Rule H) × Among s Q × Twin r s

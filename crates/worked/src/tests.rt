@@ -18,8 +18,8 @@ use semantics::set::with;
 use std::alloc::Global;
 use std::test::*;
 
-/// A rule; a head that is no atom is an error.
-fn rule(head: usize, pos: AtomSet, neg: AtomSet) -> Result<PlainRule, Fail> {
+/// A rule with its grade at a place; a head that is no atom is an error.
+fn rule(place: usize, head: usize, pos: AtomSet, neg: AtomSet) -> Result<PlainRule, Fail> {
     let Some(head) = Atom::from_number(head) else {
         return Err(Fail::new("the head is no atom"));
     };
@@ -27,6 +27,7 @@ fn rule(head: usize, pos: AtomSet, neg: AtomSet) -> Result<PlainRule, Fail> {
         head,
         pos,
         neg,
+        place,
         rank: 0,
     })
 }
@@ -39,7 +40,7 @@ fn ring(heap: Global, n: usize) -> Result<Vec<PlainRule>, Fail> {
         let Some(barred) = Atom::from_number(next) else {
             return Err(Fail::new("the ring has too many atoms"));
         };
-        rules.push(rule(i, 0, with(0, barred))?)?;
+        rules.push(rule(i, i, 0, with(0, barred))?)?;
     }
     Ok(rules)
 }
@@ -48,7 +49,7 @@ fn ring(heap: Global, n: usize) -> Result<Vec<PlainRule>, Fail> {
 fn facts_are_one_reading(rt: LibcRuntime) -> Result<(), Fail> {
     let mut rules = Vec::new(rt.alloc());
     for i in 0..64 {
-        rules.push(rule(i, 0, 0)?)?;
+        rules.push(rule(i, i, 0, 0)?)?;
     }
     check_eq(first(rules.as_slice()), Some(AtomSet::MAX))?;
     check_eq(next_after(rules.as_slice(), AtomSet::MAX), None)
@@ -70,22 +71,22 @@ fn odd_ring_has_none(rt: LibcRuntime) -> Result<(), Fail> {
     check_eq(first(rules.as_slice()), None)
 }
 
-/// Sixteen odd rings over the same atoms, and all but the first atom's rules above grade 10.
+/// Sixteen times the same odd ring, the first atom's rule at grade 10 and the others above it, and sixteen facts.
 #[test]
 fn conflict_of_a_full_rule_base(rt: LibcRuntime) -> Result<(), Fail> {
     let mut rules = Vec::new(rt.alloc());
     let mut rows = Vec::new(rt.alloc());
+    let mut grade = 10u8;
+    for _ in 0..63 {
+        rows.push(grade)?;
+        grade = grade.saturating_add(1);
+    }
+    rows.push(100u8)?;
     for _ in 0..16 {
-        let mut grade = 10u8;
         for rule in ring(rt.alloc(), 63)?.as_slice() {
             rules.push(*rule)?;
-            rows.push(grade)?;
-            grade = grade.saturating_add(1);
         }
-    }
-    for _ in 0..16 {
-        rules.push(rule(63, 0, 0)?)?;
-        rows.push(100u8)?;
+        rules.push(rule(63, 63, 0, 0)?)?;
     }
     check_eq(rules.len(), 1024)?;
     check_eq(
@@ -96,7 +97,7 @@ fn conflict_of_a_full_rule_base(rt: LibcRuntime) -> Result<(), Fail> {
 
 #[test]
 fn grades_on_pairs() -> Result<(), Fail> {
-    let rules = [rule(0, 0, 0)?, rule(1, 1, 0)?];
+    let rules = [rule(0, 0, 0, 0)?, rule(1, 1, 1, 0)?];
     let fact = Pair {
         first: Word::Fair,
         second: Point::read(40),

@@ -2,7 +2,7 @@ use mathlib.Core.Path.{_≡_, ap, _∙_}
 use mathlib.Core.List.{List}
 use Rattle.semantics.specs.Sets.{width}
 use Rattle.semantics.specs.Rules.{Rule, conflict}
-use Rattle.semantics.specs.Plain.{gradeIn, weighted}
+use Rattle.semantics.specs.Plain.{weighted}
 use Rattle.grading.proofs.Conflicts.{weighted-same, ranked-there, least-conflict, no-conflict}
 use Rattle.grading.proofs.conflict.conflict.Needs as need
 
@@ -12,7 +12,7 @@ returns-in-Some g c =
     let rules = c .rank-all .last .rules in
     let rows = c .args .rows .now in
     let kept = c .rank-all .ensures .kept in
-    let ranked = ranked-there (s .order) (gradeIn s rows) (c .args .rules .now) rules kept (c .rank-all .ensures .ranked) in
+    let ranked = ranked-there s rows (c .args .rules .now) rules kept (c .rank-all .ensures .ranked) in
     record {
       grade = c .objection .ensures ∙ least-conflict s rules rows ranked (c .in-Some .set) (c .in-Some .ensures tt) ∙ ap (λ (P : List (Rule (g .S .Denot))). conflict (s .order) width P) (weighted-same s rules (c .args .rules .now) rows kept);
       kept = kept;
@@ -25,7 +25,7 @@ returns-in-None g c =
     let rules = c .rank-all .last .rules in
     let rows = c .args .rows .now in
     let kept = c .rank-all .ensures .kept in
-    let ranked = ranked-there (s .order) (gradeIn s rows) (c .args .rules .now) rules kept (c .rank-all .ensures .ranked) in
+    let ranked = ranked-there s rows (c .args .rules .now) rules kept (c .rank-all .ensures .ranked) in
     record {
       grade = c .top .ensures ∙ no-conflict s rules rows ranked (c .in-None .ensures tt) ∙ ap (λ (P : List (Rule (g .S .Denot))). conflict (s .order) width P) (weighted-same s rules (c .args .rules .now) rows kept);
       kept = kept;
