@@ -17,13 +17,14 @@ use Rattle.semantics.specs.declared.rule.PlainRule.{PlainRule}
 use Rattle.semantics.proofs.Sets.{decides-disjoint, has-none}
 use Rattle.semantics.proofs.Cuts.{Cut, le-by-cuts}
 use Rattle.semantics.proofs.Bests.{greatest-in, greatest-out}
-use Rattle.semantics.proofs.Reducts.{reduct-in, reduct-out}
+use Rattle.semantics.proofs.Reducts.{Fails, broken-in, broken-out}
 use Rattle.semantics.proofs.Alike.{alike-weighted, alike-reduct, alike-founded}
 use Rattle.semantics.proofs.Least.{conflict-least}
 use Rattle.search.specs.Admissible.{NoSuch, Fits, Candidate, LeastObjected}
+use Rattle.search.proofs.Passes.{read-has}
+use Rattle.search.proofs.Forced.{fits-any}
 use Rattle.grading.specs.Ranks.{rankOf, ranks, ranksOf}
 use Rattle.grading.proofs.Ranking.{rank-keeps, ranks-at}
-use Rattle.grading.proofs.Worst.{broken-stands, stands-broken}
 
 -- ---- the weighted rules, place by place
 
@@ -78,31 +79,6 @@ module _ {G R : Type 0} (s : Scaled G R) where
   founded-same w A rules rows =
       alike-founded w (reduct A (weighted s rules rows)) (reduct A (byRank rules)) (alike-reduct A (weighted s rules rows) (byRank rules) (alike-weighted s (λ r. r .rank) rules rows)) A
 
-  -- ---- broken rules
-
-  module _ (rules : List PlainRule) (rows : List R) (A : ℕ) where
-    -- a rule of the reduct by A that A breaks stands at a place, and is broken there
-    broken-out : (r : Rule G) → Among r (reduct A (weighted s rules rows)) → breaks A r ≡ true → (i : ℕ) × (q : PlainRule) × Has rules q × (i < length rules) × (getD rules i q ≡ q) × Broken A q × (r .grade ≡ gradeIn s rows i)
-    unfolding positive
-    broken-out r among b =
-        let a = reduct-out A (weighted s rules rows) r among in
-        let p = weighted-out rules rows (a .0) (a .1) in
-        let is : r ≡ positive (weigh (p .rule) (gradeIn s rows (p .place))) = a .3 ∙ ap positive (p .is) in
-        let apart : Apart (p .rule .neg) A = subst (λ (q : Rule G). Apart (q .neg) A) (p .is) (a .2) in (
-          p .place,
-          p .rule,
-          (p .place, p .inside, λ d. sym (getD-read rules (p .place) (p .rule) (p .inside) (sym (p .read)) d)),
-          p .inside,
-          p .read,
-          stands-broken A (p .rule) (gradeIn s rows (p .place)) (decides-disjoint (p .rule .neg) A .1 apart) (sym (ap (breaks A) is) ∙ b),
-          ap (λ (q : Rule G). q .grade) is,
-        )
-
-    -- and the other way round
-    broken-in : (i : ℕ) (q : PlainRule) → i < length rules → getD rules i q ≡ q → Broken A q → Among (positive (weigh q (gradeIn s rows i))) (reduct A (weighted s rules rows)) × (breaks A (positive (weigh q (gradeIn s rows i))) ≡ true)
-    broken-in i q l e b =
-        (reduct-in A (weighted s rules rows) (weigh q (gradeIn s rows i)) (weighted-in rules rows i q l e) (b .0), broken-stands A q (gradeIn s rows i) b .1)
-
 -- ---- the conflict
 
 module _ {G R : Type 0} (s : Scaled G R) (rules : List PlainRule) (rows : List R) (ranked : ranks rules ≡ ranksOf (s .order) (gradeIn s rows) (length rules)) where
@@ -122,19 +98,18 @@ module _ {G R : Type 0} (s : Scaled G R) (rules : List PlainRule) (rows : List R
   unfolding worst positive
   worst-least A B least = le-by-cuts (s .order) _ _ λ h cut t.
       let a = greatest-out (s .order) h cut (breaks A) (λ r. r .grade) (reduct A P) t in
-      let b = broken-out s rules rows A (a .0) (a .1) (a .2) in
-      let p = least (b .1) (b .2) (b .5) in
+      let f = broken-out A P (a .0) (a .1) (a .2) in
+      let b = weighted-out s rules rows (f .0) (f .1) in
+      let i = b .place in
+      let p = least (b .rule) (read-has rules i (b .rule) (b .inside) (sym (b .read))) (subst (Fails A) (b .is) (f .2)) in
       let j = p .1 .0 in
       let inside : j < length rules = p .1 .1 in
       let read : getD rules j (p .0) ≡ p .0 = p .1 .2 (p .0) in
-      let low : rankOf (s .order) (gradeIn s rows) (length rules) (b .0) ≤ rankOf (s .order) (gradeIn s rows) (length rules) j = omega (arith, p .3, rank-at (b .0) (b .1) (b .3) (b .4), rank-at j (p .0) inside read) in
-      let up = cut .up (gradeIn s rows (b .0)) (gradeIn s rows j) (rank-keeps (s .order) (gradeIn s rows) (length rules) (b .0) j inside low) (ap h (sym (b .6)) ∙ a .3) in
-      let c = broken-in s rules rows B j (p .0) inside read (p .2) in
+      let low : rankOf (s .order) (gradeIn s rows) (length rules) i ≤ rankOf (s .order) (gradeIn s rows) (length rules) j = omega (arith, p .3, rank-at i (b .rule) (b .inside) (b .read), rank-at j (p .0) inside read) in
+      let grade : gradeIn s rows i ≡ a .0 .grade = sym (ap (λ (r : Rule G). r .grade) (f .3 ∙ ap positive (b .is))) in
+      let up = cut .up (gradeIn s rows i) (gradeIn s rows j) (rank-keeps (s .order) (gradeIn s rows) (length rules) i j inside low) (ap h grade ∙ a .3) in
+      let c = broken-in B P (weigh (p .0) (gradeIn s rows j)) (weighted-in s rules rows j (p .0) inside read) (p .2) in
       greatest-in (s .order) h cut (breaks B) (λ r. r .grade) (reduct B P) (positive (weigh (p .0) (gradeIn s rows j))) (c .0) (c .1) up
-
-  -- every set fits where nothing is asked
-  free : (A : ℕ) → Fits 0 0 A
-  free A = (λ x i. absurd (true≢false (sym i ∙ has-none x)), λ x i. has-none x)
 
   against-founded : (A : ℕ) → founded width (reduct A P) A ≡ true → held-against A ≡ worst (s .order) A (reduct A P)
   unfolding objection
@@ -145,7 +120,7 @@ module _ {G R : Type 0} (s : Scaled G R) (rules : List PlainRule) (rows : List R
   against-unfounded A t = cond-false _ _ _ t
 
   candidate : (A : ℕ) → A < 2 ^ width → founded width (reduct A P) A ≡ true → Candidate rules 0 0 A
-  candidate A l t = record { below = l; founds = sym (founded-same s width A rules rows) ∙ t; fits = free A }
+  candidate A l t = record { below = l; founds = sym (founded-same s width A rules rows) ∙ t; fits = fits-any A }
 
   -- the set objected to least gives the conflict
   pub least-conflict : (A : ℕ) → LeastObjected rules 0 0 A → held-against A ≡ conflict (s .order) width P

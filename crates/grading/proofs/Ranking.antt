@@ -15,51 +15,9 @@ use Rattle.scale.specs.Laws.{Order}
 use Rattle.semantics.specs.Rules.{Rule}
 use Rattle.semantics.specs.Plain.{weigh, held}
 use Rattle.semantics.specs.declared.rule.PlainRule.{PlainRule}
-use Rattle.semantics.proofs.Cuts.{le-refl}
-use Rattle.grading.specs.Ranks.{tally, rankOf, ranks, ranksOf}
-
--- ---- counting
-
-one : (b : Bool) → cond b 1 0 ≤ 1
-one true = omega arith
-one false = omega arith
-
-pub tally-more : (n : ℕ) (p : ℕ → Bool) → p n ≡ true → tally (n + 1) p ≡ tally n p + 1
-unfolding tally
-tally-more n p t = ap (λ m. tally m p) (add-one n) ∙ ap (λ (b : Bool). tally n p + cond b 1 0) t
-
-pub tally-past : (n : ℕ) (p : ℕ → Bool) → p n ≡ false → tally (n + 1) p ≡ tally n p
-unfolding tally
-tally-past n p t = ap (λ m. tally m p) (add-one n) ∙ ap (λ (b : Bool). tally n p + cond b 1 0) t ∙ omega arith
-
-pub tally-le : (n : ℕ) (p : ℕ → Bool) → tally n p ≤ n
-unfolding tally
-tally-le zero p = omega arith
-tally-le (suc n) p = omega (arith, tally-le n p, one (p n))
-
-less : (a b : Bool) → (a ≡ true → b ≡ true) → cond a 1 0 ≤ cond b 1 0
-less true b f = subst (λ (t : Bool). 1 ≤ cond t 1 0) (sym (f refl)) (omega arith)
-less false b f = omega arith
-
-tally-mono : (n : ℕ) (p q : ℕ → Bool) → ((i : ℕ) → p i ≡ true → q i ≡ true) → tally n p ≤ tally n q
-unfolding tally
-tally-mono zero p q f = omega arith
-tally-mono (suc n) p q f = omega (arith, tally-mono n p q f, less (p n) (q n) (f n))
-
--- a test that passes wherever another does, and once more, counts more
-tally-less : (n : ℕ) (p q : ℕ → Bool) → ((i : ℕ) → p i ≡ true → q i ≡ true) → (k : ℕ) → k < n → p k ≡ false → q k ≡ true → tally n p < tally n q
-unfolding tally
-tally-less zero p q f k l u v = absurd (omega arith)
-tally-less (suc n) p q f k l u v =
-    ⊎-elim
-    (λ (e : k ≡ n).
-    let a : cond {A = ℕ} (p n) 1 0 ≡ 0 = ap (λ t. cond {A = ℕ} t 1 0) (ap p (sym e) ∙ u) in
-    let b : cond {A = ℕ} (q n) 1 0 ≡ 1 = ap (λ t. cond {A = ℕ} t 1 0) (ap q (sym e) ∙ v) in
-    omega (arith, tally-mono n p q f))
-    (λ ne. omega (arith, tally-less n p q f k (omega arith) u v, less (p n) (q n) (f n)))
-    (cases-eq k n)
-
--- ---- ranks
+use Rattle.semantics.proofs.Cuts.{le-refl, other-way}
+use Rattle.semantics.proofs.Count.{tally-le, tally-less}
+use Rattle.grading.specs.Ranks.{rankOf, ranks, ranksOf}
 
 module _ {G : Type 0} (o : Order G) (f : ℕ → G) (n : ℕ) where
   -- of two grades the greater has the greater rank
@@ -71,13 +29,10 @@ module _ {G : Type 0} (o : Order G) (f : ℕ → G) (n : ℕ) where
         arith,
         h,
         tally-less n (λ k. not (o .atMost (f j) (f k))) (λ k. not (o .atMost (f i) (f k)))
-            (λ k t. not-from-false _ (⊎-elim (λ u. absurd (both-ways _ (not-true _ t) (o .transitive (f j) (f i) (f k) (other i j above) u))) (λ u. u) (cases-bool (o .atMost (f i) (f k)))))
+            (λ k _ t. not-from-false _ (⊎-elim (λ u. absurd (both-ways _ (not-true _ t) (o .transitive (f j) (f i) (f k) (other-way o (f i) (f j) above) u))) (λ u. u) (cases-bool (o .atMost (f i) (f k)))))
             j l (ap not (le-refl o (f j))) (not-from-false _ above),
       )))
       (cases-bool (o .atMost (f i) (f j)))
-    where
-      other : (a b : ℕ) → o .atMost (f a) (f b) ≡ false → o .atMost (f b) (f a) ≡ true
-      other a b e = ⊎-elim (λ t. absurd (both-ways _ e t)) (λ t. t) (o .total (f a) (f b))
 
   pub ranks-at : (k : ℕ) → k < n → getD (ranksOf o f n) k 0 ≡ rankOf o f n k
   unfolding ranksOf

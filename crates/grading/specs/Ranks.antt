@@ -1,15 +1,11 @@
 -- Ranks in place of grades.
-use mathlib.Core.Bool.{Bool, not, cond}
+use mathlib.Core.Bool.{not}
 use mathlib.Core.List.{List, map}
-use Prim.Native.Nat.{ℕ, zero, suc, _+_}
+use Prim.Native.Nat.{ℕ}
 use Rattle.std.specs.Iters.{counting}
 use Rattle.scale.specs.Laws.{Order}
+use Rattle.semantics.specs.Counting.{tally}
 use Rattle.semantics.specs.declared.rule.PlainRule.{PlainRule}
-
--- how many numbers below n pass the test
-unfoldable pub tally : ℕ → (ℕ → Bool) → ℕ
-tally zero p = 0
-tally (suc n) p = tally n p + cond (p n) 1 0
 
 -- the rank of the grade at k among n grades: how many of them are below it
 unfoldable pub rankOf : {G : Type 0} → Order G → (ℕ → G) → ℕ → ℕ → ℕ

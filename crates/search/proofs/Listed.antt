@@ -12,9 +12,10 @@ use Rattle.std.specs.declared.option.Option.the-variants.{Some, None}
 use Rattle.std.proofs.shelf.Tests.{cases-lt, cases-order}
 use Rattle.semantics.specs.Sets.{width, has, adding, others, Out}
 use Rattle.semantics.specs.declared.rule.PlainRule.{PlainRule}
-use Rattle.semantics.proofs.Sets.{has-none, not-both, has-below, agree-lt}
+use Rattle.semantics.proofs.Sets.{has-below, agree-lt}
 use Rattle.search.specs.Admissible.{Fitting, Least, NoSuch, Stable}
 use Rattle.search.specs.Listing.{Later, Branch}
+use Rattle.search.proofs.Forced.{fits-any}
 use Rattle.search.proofs.Pivots.{Pivot, pivot, wanted-turns, wanted-agrees, agrees-wanted}
 use Rattle.search.proofs.Stables.{stable-admissible, admissible-stable}
 
@@ -28,7 +29,7 @@ module _ (rs : List PlainRule) where
   first-listed =
       carried (Fitting 0 rs 0 0) (Stable rs)
       (λ a f. admissible-stable rs a (f .0))
-      (λ a t. (stable-admissible rs a t, (λ x i. not-both x 0 i (has-none x), λ x i. has-none x)))
+      (λ a t. (stable-admissible rs a t, fits-any a))
 
   module _ (set j : ℕ) where
     module _ (higher : ℕ) (low : set < 2 ^ width) (up : (x : ℕ) → Decides (has higher x) ((j < x) × (x < width))) where

@@ -54,7 +54,7 @@ module _ {G : Type 0} (Q : List (Rule G)) where
 
   heads-fired : (n x : ℕ) → In x (derived Q n) → Heads x (fired n)
   unfolding fired ready
-  heads-fired zero x t = absurd (true≢false (sym t ∙ (ap (λ D. has D x) (derived-none Q) ∙ has-none x)))
+  heads-fired zero x t = derived-none Q x t
   heads-fired (suc n) x t =
       let a = derived-out Q n x t in
       let r = a .0 in

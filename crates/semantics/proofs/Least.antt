@@ -11,7 +11,7 @@ use Rattle.scale.specs.Laws.{Order, greater, lesser}
 use Rattle.semantics.specs.Sets.{has}
 use Rattle.semantics.specs.Rules.{Rule, Among, positive, reduct, breaks, founded, leastBelow, greatestOf, worst, objection, leastAmong, necessity, conflict, reading}
 use Rattle.semantics.specs.Statements.{Fits, LeastOf}
-use Rattle.semantics.proofs.Sets.{has-none}
+use Rattle.semantics.proofs.Sets.{none-in}
 use Rattle.semantics.proofs.Cuts.{le-by-cuts}
 use Rattle.semantics.proofs.Count.{at-last}
 use Rattle.semantics.proofs.Bests.{least-out}
@@ -103,7 +103,7 @@ module _ {G : Type 0} (o : Order G) where
         (greatest-fork (breaks A) (λ r. r .grade) (reduct A P))
 
     empty-founded : founded w (reduct 0 P) 0 ≡ true
-    empty-founded = sub-founded w (reduct 0 P) 0 (λ x t. absurd (true≢false (sym t ∙ has-none x)))
+    empty-founded = sub-founded w (reduct 0 P) 0 (λ x t. none-in x t)
 
     pub conflict-held : (conflict o w P ≡ o .bottom) ⊎ ((r : Rule G) × Among r P × (r .grade ≡ conflict o w P))
     unfolding objection

@@ -43,7 +43,7 @@ module _ {G : Type 0} (o : Order G) (w : ℕ) (P : List (Rule G)) (fits : Fits w
   -- and, where no rule has the bottom grade, the other way round
   pub derived-steps : Graded o P → (n x : ℕ) → In x (derived P n) → above o (steps o w P n x) ≡ true
   unfolding steps
-  derived-steps graded zero x t = absurd (true≢false (sym t ∙ (ap (λ D. has D x) (derived-none P) ∙ has-none x)))
+  derived-steps graded zero x t = derived-none P x t
   derived-steps graded (suc n) x t =
       let a = derived-out P n x t in
       step-in o w (above o) (above-cut o) P (steps o w P n) x

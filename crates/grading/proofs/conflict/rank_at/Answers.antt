@@ -3,8 +3,9 @@ use mathlib.Core.Bool.{Bool, not}
 use native.Mathlib.Omega.{arith}
 use Prim.Native.Nat.{ℕ, _+_}
 use Rattle.semantics.specs.Plain.{gradeIn}
-use Rattle.grading.specs.Ranks.{tally, rankOf}
-use Rattle.grading.proofs.Ranking.{tally-le, tally-more, tally-past}
+use Rattle.semantics.specs.Counting.{tally}
+use Rattle.semantics.proofs.Count.{tally-le, tally-more, tally-past}
+use Rattle.grading.specs.Ranks.{rankOf}
 use Rattle.grading.proofs.conflict.rank_at.Needs as need
 use Rattle.grading.proofs.conflict.rank_at.Needs.{then-not-at-most, else-not-at-most}
 

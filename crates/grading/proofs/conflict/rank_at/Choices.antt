@@ -1,7 +1,7 @@
 use mathlib.Core.Path.{_≡_}
 use mathlib.Core.Bool.{not}
 use Rattle.semantics.specs.Plain.{gradeIn}
-use Rattle.grading.specs.Ranks.{tally}
+use Rattle.semantics.specs.Counting.{tally}
 use Rattle.grading.proofs.conflict.rank_at.Given as given
 
 abbrev pub Inv-loop-i : given.InvT-loop-i
