@@ -1,26 +1,25 @@
 -- The set that the ranks object to least is one that the grades object to least.
 use mathlib.Core.Path.{_≡_, refl, sym, ap, ap₂, subst, _∙_}
-use mathlib.Core.Bool.{Bool, true, false, not, cond, _&&_, true≢false}
-use mathlib.Core.List.{List, [], _∷_, map}
-use mathlib.Core.Logic.{_⊎_, inl, inr, ⊎-elim}
-use Prim.Native.Nat.{ℕ, zero, suc, _+_, _^_, _<_, _≤_}
+use mathlib.Core.Bool.{Bool, true, false}
+use mathlib.Core.List.{List, [], _∷_}
+use mathlib.Core.Logic.{inl, inr, ⊎-elim}
+use Prim.Native.Nat.{ℕ, zero, suc, _^_, _<_, _≤_}
 use native.Mathlib.Omega.{arith}
-use lib.ListN.{length, getD, set}
+use lib.ListN.{length, getD}
 use Rattle.std.specs.shelf.Lists.{Has}
-use Rattle.std.proofs.shelf.Lists.{map-set, set-getD, getD-map, length-map, getD-read}
-use Rattle.std.proofs.shelf.Tests.{cases-bool, cond-true, cond-false, and-parts, and-from, not-true, not-from-false}
+use Rattle.std.proofs.shelf.Lists.{getD-map, length-map}
+use Rattle.std.proofs.shelf.Tests.{cases-bool, cond-true, cond-false}
 use Rattle.scale.specs.Laws.{Order, Scaled}
-use Rattle.semantics.specs.Sets.{width, In, Out, Sub, Apart, disjoint}
-use Rattle.semantics.specs.Rules.{Rule, Among, positive, reduct, breaks, founded, greatestOf, worst, objection, conflict}
+use Rattle.semantics.specs.Sets.{width}
+use Rattle.semantics.specs.Rules.{Rule, Among, positive, reduct, breaks, founded, worst, objection, conflict}
 use Rattle.semantics.specs.Plain.{weigh, gradeIn, weighted, byRank, held, Broken}
 use Rattle.semantics.specs.declared.rule.PlainRule.{PlainRule}
-use Rattle.semantics.proofs.Sets.{decides-disjoint, has-none}
-use Rattle.semantics.proofs.Cuts.{Cut, le-by-cuts}
+use Rattle.semantics.proofs.Cuts.{le-by-cuts}
 use Rattle.semantics.proofs.Bests.{greatest-in, greatest-out}
 use Rattle.semantics.proofs.Reducts.{Fails, broken-in, broken-out}
 use Rattle.semantics.proofs.Alike.{alike-weighted, alike-reduct, alike-founded}
 use Rattle.semantics.proofs.Least.{conflict-least}
-use Rattle.search.specs.Admissible.{NoSuch, Fits, Candidate, LeastObjected}
+use Rattle.search.specs.Admissible.{NoSuch, Candidate, LeastObjected}
 use Rattle.search.proofs.Passes.{read-has}
 use Rattle.search.proofs.Forced.{fits-any}
 use Rattle.grading.specs.Ranks.{rankOf, ranks, ranksOf}
@@ -36,20 +35,19 @@ record Placed {G R : Type 0} (s : Scaled G R) (rules : List PlainRule) (rows : L
   read : getD rules place rule ≡ rule
   is : r ≡ weigh rule (gradeIn s rows place)
 
-later : {G R : Type 0} (s : Scaled G R) (q : PlainRule) (g : R) (rules : List PlainRule) (rows : List R) (r : Rule G) → Placed s rules rows r → Placed s (q ∷ rules) (g ∷ rows) r
-later s q g rules rows r p = record { place = suc (p .place); inside = omega (arith, p .inside); rule = p .rule; read = p .read; is = p .is }
-
-later-none : {G R : Type 0} (s : Scaled G R) (q : PlainRule) (rules : List PlainRule) (r : Rule G) → Placed s rules [] r → Placed s (q ∷ rules) [] r
-later-none s q rules r p = record { place = suc (p .place); inside = omega (arith, p .inside); rule = p .rule; read = p .read; is = p .is }
-
 module _ {G R : Type 0} (s : Scaled G R) where
+  -- one place later, where the rows go on as before
+  later : (q : PlainRule) (rules : List PlainRule) (rows rows′ : List R) (r : Rule G) → ((k : ℕ) → gradeIn s rows k ≡ gradeIn s rows′ (suc k)) → Placed s rules rows r → Placed s (q ∷ rules) rows′ r
+  later q rules rows rows′ r same p =
+      record { place = suc (p .place); inside = omega (arith, p .inside); rule = p .rule; read = p .read; is = p .is ∙ ap (weigh (p .rule)) (same (p .place)) }
+
   weighted-out : (rules : List PlainRule) (rows : List R) (r : Rule G) → Among r (weighted s rules rows) → Placed s rules rows r
   unfolding weighted
   weighted-out [] rows r i = absurd i
   weighted-out (q ∷ rules) [] r (inl e) = record { place = 0; inside = omega arith; rule = q; read = refl; is = e ∙ ap (weigh q) (sym (s .reads (s .order .bottom))) }
-  weighted-out (q ∷ rules) [] r (inr i) = later-none s q rules r (weighted-out rules [] r i)
+  weighted-out (q ∷ rules) [] r (inr i) = later q rules [] [] r (λ k. refl) (weighted-out rules [] r i)
   weighted-out (q ∷ rules) (g ∷ gs) r (inl e) = record { place = 0; inside = omega arith; rule = q; read = refl; is = e }
-  weighted-out (q ∷ rules) (g ∷ gs) r (inr i) = later s q g rules gs r (weighted-out rules gs r i)
+  weighted-out (q ∷ rules) (g ∷ gs) r (inr i) = later q rules gs (g ∷ gs) r (λ k. refl) (weighted-out rules gs r i)
 
   weighted-in : (rules : List PlainRule) (rows : List R) (i : ℕ) (q : PlainRule) → i < length rules → getD rules i q ≡ q → Among (weigh q (gradeIn s rows i)) (weighted s rules rows)
   unfolding weighted

@@ -1,20 +1,18 @@
 -- Ranks keep the order of the grades.
-use mathlib.Core.Path.{_≡_, refl, sym, ap, ap₂, subst, _∙_}
-use mathlib.Core.Bool.{Bool, true, false, not, cond, true≢false}
-use mathlib.Core.List.{List, [], _∷_, map}
-use mathlib.Core.Logic.{_⊎_, inl, inr, ⊎-elim, _≢_}
-use Prim.Native.Nat.{ℕ, zero, suc, _+_, _-_, _<_, _≤_}
-use native.Mathlib.Numerals.{add-one}
+use mathlib.Core.Path.{_≡_, sym, ap, _∙_}
+use mathlib.Core.Bool.{true, not}
+use mathlib.Core.List.{List}
+use mathlib.Core.Logic.{⊎-elim}
+use Prim.Native.Nat.{ℕ, _+_, _<_, _≤_}
 use native.Mathlib.Omega.{arith}
 use lib.ListN.{length, getD, set}
-use Rattle.std.specs.Iters.{counting}
 use Rattle.std.proofs.shelf.Counted.{fill-by-all, getD-map-counting}
 use Rattle.std.proofs.shelf.Lists.{getD-set-same, getD-set-other, getD-map, map-set, set-getD, length-map}
-use Rattle.std.proofs.shelf.Tests.{cases-bool, cases-eq, cond-true, cond-false, not-true, not-from-false, both-ways}
+use Rattle.std.proofs.shelf.Tests.{cases-bool, cases-eq, not-true, not-from-false, both-ways}
 use Rattle.scale.specs.Laws.{Order}
-use Rattle.semantics.specs.Rules.{Rule}
 use Rattle.semantics.specs.Plain.{weigh, held}
 use Rattle.semantics.specs.declared.rule.PlainRule.{PlainRule}
+use Rattle.semantics.proofs.Sets.{false-from}
 use Rattle.semantics.proofs.Cuts.{le-refl, other-way}
 use Rattle.semantics.proofs.Count.{tally-le, tally-less}
 use Rattle.grading.specs.Ranks.{rankOf, ranks, ranksOf}
@@ -29,7 +27,7 @@ module _ {G : Type 0} (o : Order G) (f : ℕ → G) (n : ℕ) where
         arith,
         h,
         tally-less n (λ k. not (o .atMost (f j) (f k))) (λ k. not (o .atMost (f i) (f k)))
-            (λ k _ t. not-from-false _ (⊎-elim (λ u. absurd (both-ways _ (not-true _ t) (o .transitive (f j) (f i) (f k) (other-way o (f i) (f j) above) u))) (λ u. u) (cases-bool (o .atMost (f i) (f k)))))
+            (λ k _ t. not-from-false _ (false-from _ λ u. both-ways _ (not-true _ t) (o .transitive (f j) (f i) (f k) (other-way o (f i) (f j) above) u)))
             j l (ap not (le-refl o (f j))) (not-from-false _ above),
       )))
       (cases-bool (o .atMost (f i) (f j)))

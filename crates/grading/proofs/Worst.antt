@@ -1,19 +1,17 @@
 -- The greatest grade of a broken rule, one rule after the other.
-use mathlib.Core.Path.{_≡_, refl, sym, ap, ap₂, subst, _∙_}
-use mathlib.Core.Bool.{Bool, true, false, not, cond, _&&_}
+use mathlib.Core.Path.{_≡_, sym, ap, ap₂, _∙_}
 use mathlib.Core.List.{List, [], _∷_, _++_}
-use mathlib.Core.Logic.{_⊎_, inl, inr, ⊎-elim}
+use mathlib.Core.Logic.{⊎-elim}
 use Prim.Native.Nat.{ℕ, _+_, _<_, _≤_}
 use lib.ListN.{length, getD, take}
-use Rattle.std.specs.Orderings.{Decides}
 use Rattle.std.proofs.shelf.Lists.{take-all}
-use Rattle.std.proofs.shelf.Tests.{cases-bool, and-from, and-parts, not-from-false, not-true, both-ways}
+use Rattle.std.proofs.shelf.Tests.{cases-bool}
 use Rattle.scale.specs.Laws.{Order, Scaled, greater}
-use Rattle.semantics.specs.Sets.{has, within, disjoint}
+use Rattle.semantics.specs.Sets.{disjoint}
 use Rattle.semantics.specs.Rules.{Rule, positive, reduct, breaks, greatestOf, worst}
 use Rattle.semantics.specs.Plain.{weigh, gradeIn, weighted, Broken}
 use Rattle.semantics.specs.declared.rule.PlainRule.{PlainRule}
-use Rattle.semantics.proofs.Sets.{decides-disjoint}
+use Rattle.semantics.proofs.Sets.{false-from, decides-disjoint}
 use Rattle.semantics.proofs.Reducts.{decides-breaks}
 use Rattle.grading.proofs.Fronts.{weighted-more, reduct-kept, reduct-dropped, greatest-passed, greatest-failed}
 
@@ -31,10 +29,7 @@ module _ {G : Type 0} (o : Order G) (A : ℕ) (P : List (Rule G)) (r : PlainRule
       (λ d.
       ap (worst o A) (reduct-kept A P (weigh r g) d)
       ∙ greatest-failed o (breaks A) (λ q. q .grade) (reduct A P) (positive (weigh r g))
-      (⊎-elim
-      (λ t. let b = decides-breaks A (positive (weigh r g)) .0 t in absurd (none (decides-disjoint (r .neg) A .0 d, b .0, b .1)))
-      (λ e. e)
-      (cases-bool (breaks A (positive (weigh r g))))))
+      (false-from _ λ t. let b = decides-breaks A (positive (weigh r g)) .0 t in none (decides-disjoint (r .neg) A .0 d, b .0, b .1)))
       (λ d. ap (worst o A) (reduct-dropped A P (weigh r g) d))
       (cases-bool (disjoint (r .neg) A))
 

@@ -3,13 +3,14 @@ use mathlib.Core.Path.{_≡_, sym, subst, _∙_}
 use mathlib.Core.Logic.{⊎-elim}
 use mathlib.Core.List.{List}
 use Prim.Native.Nat.{ℕ, _+_, _^_, _<_, _≤_}
+use borrow.Author.Count.{below-more}
 use native.Mathlib.Omega.{arith}
 use lib.Bits.{bitAnd}
 use Rattle.std.specs.Options.{Cases}
 use Rattle.std.specs.Orderings.{Decides}
 use Rattle.std.specs.declared.option.Option.{Option}
 use Rattle.std.specs.declared.option.Option.the-variants.{Some, None}
-use Rattle.std.proofs.shelf.Tests.{cases-lt, cases-order}
+use Rattle.std.proofs.shelf.Tests.{cases-order}
 use Rattle.semantics.specs.Sets.{width, has, adding, others, Out}
 use Rattle.semantics.specs.declared.rule.PlainRule.{PlainRule}
 use Rattle.semantics.proofs.Sets.{has-below, agree-lt}
@@ -55,8 +56,7 @@ module _ (rs : List PlainRule) where
     Passed n = (j : ℕ) → j < n → Out j set → NoSuch (Branch rs set j)
 
     pub passed-more : (n : ℕ) → Passed n → (Out n set → NoSuch (Branch rs set n)) → Passed (n + 1)
-    passed-more n passed here j l o =
-        ⊎-elim (λ h. passed j h o) (λ h. let e : n ≡ j = omega arith in subst (λ (k : ℕ). NoSuch (Branch rs set k)) e (here (subst (λ (k : ℕ). Out k set) (sym e) o))) (cases-lt j n)
+    passed-more = below-more (λ j. Out j set → NoSuch (Branch rs set j))
 
     -- past the last atom nothing is left
     pub later-none : (n : ℕ) → Passed n → width ≤ n → NoSuch (Later rs set)

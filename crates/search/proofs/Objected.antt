@@ -1,18 +1,18 @@
 -- The rules that a set breaks, by rank, and the candidate that is objected to least.
-use mathlib.Core.Path.{_≡_, sym, ap, subst, _∙_}
+use mathlib.Core.Path.{_≡_, sym, subst, _∙_}
 use mathlib.Core.Logic.{_⊎_, inl, inr, ⊎-elim}
 use mathlib.Core.Bool.{_&&_}
 use mathlib.Core.List.{List, [], _∷_, _++_}
-use Prim.Native.Nat.{ℕ, zero, suc, _+_, _-_, _^_, _<_, _≤_, max}
+use Prim.Native.Nat.{ℕ, zero, suc, _-_, _^_, _<_, _≤_, max}
 use native.Mathlib.Omega.{arith}
-use lib.ListN.{length, getD, take}
+use lib.ListN.{length, getD}
 use Rattle.std.specs.Options.{Cases, valueOr}
 use Rattle.std.specs.Orderings.{Decides}
 use Rattle.std.specs.declared.option.Option.{Option}
 use Rattle.std.specs.declared.option.Option.the-variants.{Some, None}
 use Rattle.std.specs.shelf.Lists.{Has}
 use Rattle.std.proofs.shelf.Elements.{has-append-left, has-append-right, has-push, has-push-cases}
-use Rattle.std.proofs.shelf.Lists.{take-more, getD-default}
+use Rattle.std.proofs.shelf.Lists.{getD-default}
 use Rattle.std.proofs.shelf.Tests.{both-ways, cases-bool, cases-lt}
 use Rattle.std.proofs.shelf.Ways.{decides-and}
 use Rattle.semantics.specs.Sets.{disjoint}
@@ -65,9 +65,6 @@ module _ (A : ℕ) (xs : List PlainRule) (x : PlainRule) where
       (λ (l : n ≤ x .rank). record { rule = x; stands = has-push xs x; broken = b; ranked = omega arith; most = most })
       (cases-lt (x .rank) n)
 
-pub taken-more : (xs : List PlainRule) (k : ℕ) (x : PlainRule) → k < length xs → x ≡ getD xs k x → take (k + 1) xs ≡ take k xs ++ x ∷ []
-taken-more xs k x l e = take-more xs k x l ∙ ap (λ y. take k xs ++ y ∷ []) (sym e)
-
 -- ---- a rule of no lower rank than t that the set breaks, or none
 
 decides-broken : (A : ℕ) (q : PlainRule) → Decides (disjoint (q .neg) A && breaks A (weigh q (q .rank))) (Broken A q)
@@ -109,25 +106,18 @@ module _ (t A : ℕ) where
 -- ---- the candidates
 
 module _ (rs : List PlainRule) (present absent : ℕ) where
-  -- an admissible set that fits is a candidate, and breaks no rule from the threshold on
-  pub fitting-candidate : (t A : ℕ) → Fitting t rs present absent A → Candidate rs present absent A
-  fitting-candidate t A f = record { below = f .0 .below; founds = f .0 .founds; fits = f .1 }
-
-  pub fitting-below : (t A : ℕ) → Fitting t rs present absent A → (q : PlainRule) → Has rs q → Broken A q → q .rank < t
+  -- an admissible set that fits breaks no rule from the threshold on
+  fitting-below : (t A : ℕ) → Fitting t rs present absent A → (q : PlainRule) → Has rs q → Broken A q → q .rank < t
   fitting-below t A f = keeps-out rs A t (f .0 .keeps)
 
   -- a candidate that breaks no rule from the threshold on is admissible
-  pub candidate-fitting : (t A : ℕ) → Candidate rs present absent A → ((q : PlainRule) → Has rs q → Broken A q → q .rank < t) → Fitting t rs present absent A
+  candidate-fitting : (t A : ℕ) → Candidate rs present absent A → ((q : PlainRule) → Has rs q → Broken A q → q .rank < t) → Fitting t rs present absent A
   candidate-fitting t A c low = (record { below = c .below; founds = c .founds; keeps = keeps-in rs A t low }, c .fits)
 
   -- ---- the rounds: the best candidate so far, with the rank of the worst rule that it breaks; none before the first round
 
   abbrev pub Best : Option ℕ → ℕ → Type 0
   Best best n = Cases best (n ≡ 2 ^ 64 - 1) (λ a. Candidate rs present absent a × Worst rs a n)
-
-  -- a candidate that breaks no rule is the least objected to
-  pub objected-whole : (t A : ℕ) → Fitting t rs present absent A → Unbroken rs A → LeastObjected rs present absent A
-  objected-whole t A f none = record { candidate = fitting-candidate t A f; least = λ B c q h b. absurd (none q h b) }
 
   -- the next threshold is lower
   pub worst-falls : (t A n : ℕ) → Fitting t rs present absent A → Worst rs A n → n < t

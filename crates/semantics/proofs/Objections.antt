@@ -9,7 +9,7 @@ use Rattle.scale.specs.Laws.{Order, above}
 use Rattle.semantics.specs.Sets.{has, within, collect, In}
 use Rattle.semantics.specs.Rules.{Rule, Among, reduct, applicable, breaks, worst, derived, steps, consequences, support, reading, stable, founded, objection, leastAmong, necessity, conflict}
 use Rattle.semantics.specs.Statements.{Fits, Graded}
-use Rattle.semantics.proofs.Sets.{has-below, same-set, same-truth, within-has, within-from, collect-below, collect-has, has-none}
+use Rattle.semantics.proofs.Sets.{false-from, has-below, same-set, same-truth, within-has, within-from, collect-below, collect-has}
 use Rattle.semantics.proofs.Cuts.{Cut, above-cut, bot-of, same-by-cuts}
 use Rattle.semantics.proofs.Bests.{least-in, least-out, least-miss, greatest-in, greatest-out}
 use Rattle.semantics.proofs.Stages.{Fires, step-in, step-out, within as no-further, closed}
@@ -80,7 +80,7 @@ module _ {G : Type 0} (o : Order G) (w : ℕ) (P : List (Rule G)) (fits : Fits w
     -- they break no rule of the cut
     pub model-breaks-none : h (worst o model P) ≡ false
     unfolding worst breaks
-    model-breaks-none = ⊎-elim (λ t. absurd (clash t)) (λ e. e) (cases-bool (h (worst o model P)))
+    model-breaks-none = false-from (h (worst o model P)) clash
       where
         clash : h (worst o model P) ≡ true → ⊥
         clash t =
@@ -145,7 +145,7 @@ module _ {G : Type 0} (o : Order G) (w : ℕ) (P : List (Rule G)) (fits : Fits w
   -- nothing is held against A where it is founded and breaks no rule
   pub none-opposes : (A : ℕ) → founded w P A ≡ true → ((r : Rule G) → Among r P → breaks A r ≡ false) → objection o w P A ≡ o .bottom
   unfolding objection worst
-  none-opposes A t f = cond-true (founded w P A) (worst o A P) (o .top) t ∙ bot-of o (worst o A P) (⊎-elim (λ u. absurd (clash u)) (λ u. u) (cases-bool (above o (worst o A P))))
+  none-opposes A t f = cond-true (founded w P A) (worst o A P) (o .top) t ∙ bot-of o (worst o A P) (false-from (above o (worst o A P)) clash)
     where
       clash : above o (worst o A P) ≡ true → ⊥
       clash u = let a = greatest-out o (above o) (above-cut o) (breaks A) (λ s. s .grade) P u in true≢false (sym (a .2) ∙ f (a .0) (a .1))
@@ -161,8 +161,8 @@ module _ {G : Type 0} (o : Order G) (w : ℕ) (P : List (Rule G)) (fits : Fits w
   pub unopposed-breaks-none : Graded o P → (A : ℕ) → objection o w P A ≡ o .bottom → (r : Rule G) → Among r P → breaks A r ≡ false
   unfolding worst
   unopposed-breaks-none graded A e r i =
-      ⊎-elim (λ (t : breaks A r ≡ true). absurd (true≢false (sym (greatest-in o (above o) (above-cut o) (breaks A) (λ s. s .grade) P r i t (graded r i)) ∙ unopposed-founded A e .1)))
-      (λ n. n) (cases-bool (breaks A r))
+      false-from (breaks A r) λ t.
+      true≢false (sym (greatest-in o (above o) (above-cut o) (breaks A) (λ s. s .grade) P r i t (graded r i)) ∙ unopposed-founded A e .1)
 
   pub unopposed-is-model : Graded o P → (A : ℕ) → A < 2 ^ w → objection o w P A ≡ o .bottom → A ≡ support o w (consequences o w P)
   unfolding consequences
@@ -196,7 +196,7 @@ module _ {G : Type 0} (o : Order G) (w : ℕ) (P : List (Rule G)) (fits : Fits w
 
   pub stable-frees : (A : ℕ) → stable o w P A ≡ true → conflict o w P ≡ o .bottom
   unfolding conflict leastAmong
-  stable-frees A t = bot-of o (conflict o w P) (⊎-elim (λ u. absurd (clash u)) (λ u. u) (cases-bool (above o (conflict o w P))))
+  stable-frees A t = bot-of o (conflict o w P) (false-from (above o (conflict o w P)) clash)
     where
       clash : above o (conflict o w P) ≡ true → ⊥
       clash u =

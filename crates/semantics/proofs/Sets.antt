@@ -2,7 +2,7 @@
 use mathlib.Core.Path.{_≡_, refl, sym, ap, subst, _∙_}
 use mathlib.Core.Logic.{_⊎_, inl, inr, ⊎-elim}
 use mathlib.Core.Bool.{Bool, true, false, not, cond, _&&_, _||_}
-use Prim.Native.Nat.{ℕ, zero, suc, _+_, _-_, _*_, _/_, _%_, _^_, _≤_, _<_}
+use Prim.Native.Nat.{ℕ, zero, suc, _+_, _*_, _/_, _%_, _^_, _≤_, _<_}
 use native.Mathlib.Nat.{pow-suc}
 use native.Mathlib.Omega.{arith}
 use lib.Dec.{eqb, eqb·suc-zero, eqb·suc-suc}
@@ -91,6 +91,10 @@ same-truth true b f g = sym (f refl)
 same-truth false true f g = g refl
 same-truth false false f g = refl
 
+-- what is never true is false
+pub false-from : (b : Bool) → (b ≡ true → ⊥) → b ≡ false
+false-from b f = ⊎-elim (λ t. absurd (f t)) (λ e. e) (cases-bool b)
+
 pub not-both : {X : Type 0} (x A : ℕ) → In x A → Out x A → X
 not-both x A i o = absurd (both-ways (has A x) o i)
 
@@ -107,7 +111,7 @@ and-sub A B e x h =
     let n = ap (λ m. has m x) e in
     grind arith
 
-sub-and-at : (a b : Bool) → (a ≡ true → b ≡ true) → (a && b) ≡ a
+pub sub-and-at : (a b : Bool) → (a ≡ true → b ≡ true) → (a && b) ≡ a
 sub-and-at true b h = h refl
 sub-and-at false b h = refl
 

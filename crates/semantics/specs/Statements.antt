@@ -1,9 +1,9 @@
 -- The theorems. Each is named by the contract of a function of src/theory.rt, so that the crate fails without its proof.
 use mathlib.Core.Path.{_≡_}
 use mathlib.Core.Logic.{_↔_, _⊎_}
-use mathlib.Core.Bool.{Bool, true, false, not, cond}
+use mathlib.Core.Bool.{Bool, true, false, not}
 use mathlib.Core.List.{List, [], _∷_, map}
-use Prim.Native.Nat.{ℕ, zero, suc, _+_, _/_, _%_, _^_, _<_}
+use Prim.Native.Nat.{ℕ, _/_, _%_, _^_, _<_}
 use lib.Dec.{eqb}
 use Rattle.scale.specs.Laws.{Order, above}
 use Rattle.semantics.specs.Sets.{has, within, disjoint, adding, others, collect, In, Out, Sub, Apart}

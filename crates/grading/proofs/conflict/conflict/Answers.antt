@@ -1,8 +1,8 @@
-use mathlib.Core.Path.{_≡_, ap, _∙_}
+use mathlib.Core.Path.{ap, _∙_}
 use mathlib.Core.List.{List}
 use Rattle.semantics.specs.Sets.{width}
 use Rattle.semantics.specs.Rules.{Rule, conflict}
-use Rattle.semantics.specs.Plain.{gradeIn, weighted}
+use Rattle.semantics.specs.Plain.{gradeIn}
 use Rattle.grading.proofs.Conflicts.{weighted-same, ranked-there, least-conflict, no-conflict}
 use Rattle.grading.proofs.conflict.conflict.Needs as need
 

@@ -1,6 +1,6 @@
 use mathlib.Core.Path.{_≡_}
 use Prim.Native.Nat.{ℕ, _<_}
-use lib.ListN.{length, getD}
+use lib.ListN.{getD}
 use Rattle.semantics.specs.Plain.{gradeIn, held}
 use Rattle.grading.specs.Ranks.{rankOf, ranks}
 use Rattle.grading.proofs.conflict.rank_all.Given as given
