@@ -1,6 +1,6 @@
 -- The set that the ranks object to least is one that the grades object to least.
 use mathlib.Core.Path.{_≡_, refl, sym, ap, ap₂, subst, _∙_}
-use mathlib.Core.Bool.{Bool, true, false}
+use mathlib.Core.Bool.{Bool, true}
 use mathlib.Core.List.{List, [], _∷_}
 use mathlib.Core.Logic.{inl, inr, ⊎-elim}
 use Prim.Native.Nat.{ℕ, zero, suc, _^_, _<_, _≤_}
@@ -8,7 +8,7 @@ use native.Mathlib.Omega.{arith}
 use lib.ListN.{length, getD}
 use Rattle.std.specs.shelf.Lists.{Has}
 use Rattle.std.proofs.shelf.Lists.{getD-map, length-map}
-use Rattle.std.proofs.shelf.Tests.{cases-bool, cond-true, cond-false}
+use Rattle.std.proofs.shelf.Tests.{cases-bool}
 use Rattle.scale.specs.Laws.{Order, Scaled}
 use Rattle.semantics.specs.Sets.{width}
 use Rattle.semantics.specs.Rules.{Rule, Among, positive, reduct, breaks, founded, worst, objection, conflict}
@@ -18,6 +18,7 @@ use Rattle.semantics.proofs.Cuts.{le-by-cuts}
 use Rattle.semantics.proofs.Bests.{greatest-in, greatest-out}
 use Rattle.semantics.proofs.Reducts.{Fails, broken-in, broken-out}
 use Rattle.semantics.proofs.Alike.{alike-weighted, alike-reduct, alike-founded}
+use Rattle.semantics.proofs.Objections.{objection-founded, objection-unfounded}
 use Rattle.semantics.proofs.Least.{conflict-least}
 use Rattle.search.specs.Admissible.{NoSuch, Candidate, LeastObjected}
 use Rattle.search.proofs.Passes.{read-has}
@@ -109,14 +110,6 @@ module _ {G R : Type 0} (s : Scaled G R) (rules : List PlainRule) (rows : List R
       let c = broken-in B P (weigh (p .0) (gradeIn s rows j)) (weighted-in s rules rows j (p .0) inside read) (p .2) in
       greatest-in (s .order) h cut (breaks B) (λ r. r .grade) (reduct B P) (positive (weigh (p .0) (gradeIn s rows j))) (c .0) (c .1) up
 
-  against-founded : (A : ℕ) → founded width (reduct A P) A ≡ true → held-against A ≡ worst (s .order) A (reduct A P)
-  unfolding objection
-  against-founded A t = cond-true _ _ _ t
-
-  against-unfounded : (A : ℕ) → founded width (reduct A P) A ≡ false → held-against A ≡ s .order .top
-  unfolding objection
-  against-unfounded A t = cond-false _ _ _ t
-
   candidate : (A : ℕ) → A < 2 ^ width → founded width (reduct A P) A ≡ true → Candidate rules 0 0 A
   candidate A l t = record { below = l; founds = sym (founded-same s width A rules rows) ∙ t; fits = fits-any A }
 
@@ -130,9 +123,9 @@ module _ {G R : Type 0} (s : Scaled G R) (rules : List PlainRule) (rows : List R
       (subst (λ (g : G). s .order .atMost (held-against A) g ≡ true) (at .3)
       (⊎-elim
       (λ (t : founded width (reduct B P) B ≡ true).
-      subst (λ (g : G). s .order .atMost g (held-against B) ≡ true) (sym (against-founded A (founded-same s width A rules rows ∙ a .candidate .founds)))
-      (subst (λ (g : G). s .order .atMost (worst (s .order) A (reduct A P)) g ≡ true) (sym (against-founded B t)) (worst-least A B (a .least B (candidate B (at .1) t)))))
-      (λ t. subst (λ (g : G). s .order .atMost (held-against A) g ≡ true) (sym (against-unfounded B t)) (s .order .greatest (held-against A)))
+      subst (λ (g : G). s .order .atMost g (held-against B) ≡ true) (sym (objection-founded (s .order) width (reduct A P) A (founded-same s width A rules rows ∙ a .candidate .founds)))
+      (subst (λ (g : G). s .order .atMost (worst (s .order) A (reduct A P)) g ≡ true) (sym (objection-founded (s .order) width (reduct B P) B t)) (worst-least A B (a .least B (candidate B (at .1) t)))))
+      (λ t. subst (λ (g : G). s .order .atMost (held-against A) g ≡ true) (sym (objection-unfounded (s .order) width (reduct B P) B t)) (s .order .greatest (held-against A)))
       (cases-bool (founded width (reduct B P) B))))
       (least .below A (a .candidate .below) refl)
 
@@ -140,7 +133,7 @@ module _ {G R : Type 0} (s : Scaled G R) (rules : List PlainRule) (rows : List R
   pub no-conflict : NoSuch (Candidate rules 0 0) → s .order .top ≡ conflict (s .order) width P
   no-conflict none =
       let at = conflict-least (s .order) width P .attained 0 (omega arith) refl in
-      ⊎-elim (λ t. absurd (none (at .0) (candidate (at .0) (at .1) t))) (λ t. sym (against-unfounded (at .0) t) ∙ at .3) (cases-bool (founded width (reduct (at .0) P) (at .0)))
+      ⊎-elim (λ t. absurd (none (at .0) (candidate (at .0) (at .1) t))) (λ t. sym (objection-unfounded (s .order) width (reduct (at .0) P) (at .0) t) ∙ at .3) (cases-bool (founded width (reduct (at .0) P) (at .0)))
 
 -- rules that differ in their ranks alone are as many
 pub ranked-there : {G : Type 0} (o : Order G) (f : ℕ → G) (xs ys : List PlainRule) → held ys ≡ held xs → ranks ys ≡ ranksOf o f (length xs) → ranks ys ≡ ranksOf o f (length ys)

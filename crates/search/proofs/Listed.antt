@@ -9,11 +9,11 @@ use lib.Bits.{bitAnd}
 use Rattle.std.specs.Options.{Cases}
 use Rattle.std.specs.Orderings.{Decides}
 use Rattle.std.specs.declared.option.Option.{Option}
-use Rattle.std.specs.declared.option.Option.the-variants.{Some, None}
 use Rattle.std.proofs.shelf.Tests.{cases-order}
 use Rattle.semantics.specs.Sets.{width, has, adding, others, Out}
 use Rattle.semantics.specs.declared.rule.PlainRule.{PlainRule}
 use Rattle.semantics.proofs.Sets.{has-below, agree-lt}
+use Rattle.semantics.proofs.Members.{option-weaker}
 use Rattle.search.specs.Admissible.{Fitting, Least, NoSuch, Stable}
 use Rattle.search.specs.Listing.{Later, Branch}
 use Rattle.search.proofs.Forced.{fits-any}
@@ -22,8 +22,10 @@ use Rattle.search.proofs.Stables.{stable-admissible, admissible-stable}
 
 -- one property in place of another that the same numbers have
 carried : (P Q : ℕ → Type 0) → ((a : ℕ) → P a → Q a) → ((a : ℕ) → Q a → P a) → (o : Option ℕ) → Cases o (NoSuch P) (Least P) → Cases o (NoSuch Q) (Least Q)
-carried P Q to from None none = λ b q. none b (from b q)
-carried P Q to from (Some a) f = record { passes = to a (f .passes); least = λ b q. f .least b (from b q) }
+carried P Q to from o h =
+    option-weaker o (NoSuch P) (NoSuch Q) (Least P) (Least Q) h
+    (λ none b q. none b (from b q))
+    (λ a f. record { passes = to a (f .passes); least = λ b q. f .least b (from b q) })
 
 module _ (rs : List PlainRule) where
   pub first-listed : (o : Option ℕ) → Cases o (NoSuch (Fitting 0 rs 0 0)) (Least (Fitting 0 rs 0 0)) → Cases o (NoSuch (Stable rs)) (Least (Stable rs))

@@ -7,9 +7,9 @@ use lib.Bits.{bitOr}
 use Rattle.std.proofs.shelf.Tests.{cases-bool, cases-lt, cases-eq}
 use Rattle.std.specs.Options.{Cases}
 use Rattle.std.specs.declared.option.Option.{Option}
-use Rattle.std.specs.declared.option.Option.the-variants.{Some, None}
 use Rattle.semantics.specs.Sets.{width, has, adding, others, In, Out, Sub, Apart}
 use Rattle.semantics.proofs.Sets.{has-past, has-below, same-atoms, sub-anti, agree-lt, in-or, or-in-left, or-in-right, in-adding, adding-in, adding-keeps, in-others, out-others, others-below, not-both, out-from, apart-sym, apart-sub}
+use Rattle.semantics.proofs.Members.{option-weaker}
 use Rattle.search.specs.Admissible.{Fits, Least, NoSuch}
 use Rattle.search.specs.Narrowed.{Narrowed, Of, DecidedFrom}
 use Rattle.search.proofs.Forced.{none-narrowed}
@@ -143,5 +143,7 @@ module _ (K : ℕ → Type 0) (low : (A : ℕ) → K A → A < 2 ^ width) (n p a
   found-absent A l = least-narrowed K p a p′ a′ m A (least-absent K low n p′ a′ d A l)
 
   pub then-present : NoSuch (Of K p′ (adding a′ n)) → (o : Option ℕ) → Cases o (NoSuch (Of K (adding p′ n) a′)) (Least (Of K (adding p′ n) a′)) → Cases o (NoSuch (Of K p a)) (Least (Of K p a))
-  then-present none (Some A) l = least-narrowed K p a p′ a′ m A (least-present K low n p′ a′ d none A l)
-  then-present none None h = none-narrowed K p a p′ a′ m (none-both K low n p′ a′ d none h)
+  then-present none o h =
+      option-weaker o (NoSuch (Of K (adding p′ n) a′)) (NoSuch (Of K p a)) (Least (Of K (adding p′ n) a′)) (Least (Of K p a)) h
+      (λ k. none-narrowed K p a p′ a′ m (none-both K low n p′ a′ d none k))
+      (λ A l. least-narrowed K p a p′ a′ m A (least-present K low n p′ a′ d none A l))

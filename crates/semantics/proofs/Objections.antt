@@ -1,6 +1,6 @@
 -- Objections, necessity and conflict, seen through a cut.
 use mathlib.Core.Path.{_≡_, refl, sym, ap, _∙_, subst}
-use mathlib.Core.Bool.{Bool, true, false, not, cond, true≢false}
+use mathlib.Core.Bool.{Bool, true, false, not, true≢false}
 use mathlib.Core.Logic.{⊎-elim}
 use mathlib.Core.List.{List}
 use Prim.Native.Nat.{ℕ, zero, suc, _<_, _^_}
@@ -24,6 +24,14 @@ module _ {G : Type 0} (o : Order G) (w : ℕ) where
   pub support-below : (c : ℕ → G) → support o w c < 2 ^ w
   unfolding support
   support-below c = collect-below w (λ y. above o (c y))
+
+  pub objection-founded : (P : List (Rule G)) (A : ℕ) → founded w P A ≡ true → objection o w P A ≡ worst o A P
+  unfolding objection
+  objection-founded P A t = cond-true (founded w P A) (worst o A P) (o .top) t
+
+  pub objection-unfounded : (P : List (Rule G)) (A : ℕ) → founded w P A ≡ false → objection o w P A ≡ o .top
+  unfolding objection
+  objection-unfounded P A t = cond-false (founded w P A) (worst o A P) (o .top) t
 
   pub stable-is-below : (P : List (Rule G)) (A : ℕ) → stable o w P A ≡ true → A < 2 ^ w
   unfolding stable
@@ -111,17 +119,16 @@ module _ {G : Type 0} (o : Order G) (w : ℕ) (P : List (Rule G)) (fits : Fits w
         steps-derived o w (applicable A P) (applicable-fits w A P fits) h cut w x (model-derived w x (sym (model-has x l) ∙ t))
 
     pub model-objection : h (objection o w P model) ≡ false
-    unfolding objection
-    model-objection = let A = model in ap h (cond-true (founded w P A) (worst o A P) (o .top) model-founded) ∙ model-breaks-none
+    model-objection = ap h (objection-founded o w P model model-founded) ∙ model-breaks-none
 
     -- the cut holds the necessity of an atom if it holds its grade
     pub necessity-up : (x : ℕ) → h (consequences o w P x) ≡ true → h (necessity o w P x) ≡ true
-    unfolding necessity leastAmong objection consequences
+    unfolding necessity leastAmong consequences
     necessity-up x t = least-in o h cut (λ A. not (has A x)) (objection o w P) (2 ^ w) λ A l lacks.
         ⊎-elim (λ (e : founded w P A ≡ true).
-        ap h (cond-true (founded w P A) (worst o A P) (o .top) e) ∙
+        ap h (objection-founded o w P A e) ∙
         ⊎-elim (λ (u : h (worst o A P) ≡ true). u) (λ u. absurd (true≢false (sym (swallows A u w x t) ∙ not-true (has A x) lacks))) (cases-bool (h (worst o A P))))
-        (λ e. ap h (cond-false (founded w P A) (worst o A P) (o .top) e) ∙ cut .holds-top)
+        (λ e. ap h (objection-unfounded o w P A e) ∙ cut .holds-top)
         (cases-bool (founded w P A))
 
     pub necessity-down : (x : ℕ) → x < w → h (necessity o w P x) ≡ true → h (consequences o w P x) ≡ true
@@ -144,19 +151,18 @@ module _ {G : Type 0} (o : Order G) (w : ℕ) (P : List (Rule G)) (fits : Fits w
 
   -- nothing is held against A where it is founded and breaks no rule
   pub none-opposes : (A : ℕ) → founded w P A ≡ true → ((r : Rule G) → Among r P → breaks A r ≡ false) → objection o w P A ≡ o .bottom
-  unfolding objection worst
-  none-opposes A t f = cond-true (founded w P A) (worst o A P) (o .top) t ∙ bot-of o (worst o A P) (false-from (above o (worst o A P)) clash)
+  unfolding worst
+  none-opposes A t f = objection-founded o w P A t ∙ bot-of o (worst o A P) (false-from (above o (worst o A P)) clash)
     where
       clash : above o (worst o A P) ≡ true → ⊥
       clash u = let a = greatest-out o (above o) (above-cut o) (breaks A) (λ s. s .grade) P u in true≢false (sym (a .2) ∙ f (a .0) (a .1))
 
   pub unopposed-founded : (A : ℕ) → objection o w P A ≡ o .bottom → (founded w P A ≡ true) × (above o (worst o A P) ≡ false)
-  unfolding objection
-  unopposed-founded A e = go (founded w P A) refl e
-    where
-      go : (b : Bool) → founded w P A ≡ b → cond b (worst o A P) (o .top) ≡ o .bottom → (founded w P A ≡ true) × (above o (worst o A P) ≡ false)
-      go true d u = (d, ap (above o) u ∙ above-cut o .out)
-      go false d u = absurd (o .apart (sym u))
+  unopposed-founded A e =
+      ⊎-elim
+      (λ t. (t, ap (above o) (sym (objection-founded o w P A t) ∙ e) ∙ above-cut o .out))
+      (λ n. absurd (o .apart (sym e ∙ objection-unfounded o w P A n)))
+      (cases-bool (founded w P A))
 
   pub unopposed-breaks-none : Graded o P → (A : ℕ) → objection o w P A ≡ o .bottom → (r : Rule G) → Among r P → breaks A r ≡ false
   unfolding worst
