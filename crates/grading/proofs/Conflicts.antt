@@ -1,6 +1,6 @@
 -- The set that the ranks object to least is one that the grades object to least.
 use mathlib.Core.Path.{_≡_, refl, sym, ap, ap₂, subst, _∙_}
-use mathlib.Core.Bool.{Bool, true, false, true≢false}
+use mathlib.Core.Bool.{true}
 use mathlib.Core.List.{List, [], _∷_}
 use mathlib.Core.Logic.{⊎-elim}
 use Prim.Native.Nat.{ℕ, _^_, _<_, _≤_}
@@ -8,19 +8,21 @@ use native.Mathlib.Omega.{arith}
 use lib.ListN.{length, getD}
 use Rattle.std.specs.shelf.Lists.{Has}
 use Rattle.std.proofs.shelf.Lists.{getD-map}
-use Rattle.std.proofs.shelf.Tests.{cases-bool, cond-true, cond-false}
+use Rattle.std.proofs.shelf.Tests.{cases-bool}
 use Rattle.scale.specs.Laws.{Order, Scaled}
 use Rattle.semantics.specs.Sets.{width}
 use Rattle.semantics.specs.Rules.{Rule, positive, reduct, breaks, founded, worst, objection, conflict}
 use Rattle.semantics.specs.Plain.{weigh, gradeIn, gradeOf, weighted, byPlace, byRank, Broken}
 use Rattle.semantics.specs.declared.rule.PlainRule.{PlainRule}
-use Rattle.semantics.proofs.Sets.{has-none}
 use Rattle.semantics.proofs.Cuts.{Cut, le-by-cuts}
 use Rattle.semantics.proofs.Bests.{greatest-in, greatest-out}
+use Rattle.semantics.proofs.Plain.{graded-in, graded-out}
+use Rattle.semantics.proofs.Reducts.{Fails, broken-in, broken-out}
+use Rattle.semantics.proofs.Objections.{objection-founded, objection-unfounded}
 use Rattle.semantics.proofs.Alike.{alike-weighted, alike-reduct, alike-founded}
 use Rattle.semantics.proofs.Least.{conflict-least}
-use Rattle.search.proofs.Reducts.{broken-in, broken-out}
-use Rattle.search.specs.Admissible.{NoSuch, Fits, Candidate, LeastObjected}
+use Rattle.search.specs.Admissible.{NoSuch, Candidate, LeastObjected}
+use Rattle.search.proofs.Forced.{fits-any}
 use Rattle.grading.specs.Ranks.{grades, rankAmong, ranks, ranksOf}
 use Rattle.grading.proofs.Ranking.{rank-keeps, grade-among, ranks-at, same-length, same-place, same-grades}
 
@@ -66,27 +68,19 @@ module _ {G R : Type 0} (s : Scaled G R) (rules : List PlainRule) (rows : List R
   unfolding worst weighted positive
   worst-least A B least = le-by-cuts (s .order) _ _ λ h cut t.
       let a = greatest-out (s .order) h cut (breaks A) (λ r. r .grade) (reduct A P) t in
-      let b = broken-out (gradeOf s rows) A rules (a .0) (a .1) (a .2) in
-      let p = least (b .0) (b .1) (b .2) in
-      let low : rankAmong (s .order) (grades s rows rules) (gradeOf s rows (b .0)) ≤ rankAmong (s .order) (grades s rows rules) (gradeOf s rows (p .0)) = omega (arith, p .3, ranked (b .0) (b .1), ranked (p .0) (p .1)) in
-      let up = cut .up (gradeOf s rows (b .0)) (gradeOf s rows (p .0)) (rank-keeps (s .order) (grades s rows rules) (gradeOf s rows (b .0)) (gradeOf s rows (p .0)) (grade-among s rows rules (p .0) (p .1)) low) (ap h (sym (b .3)) ∙ a .3) in
-      let c = broken-in (gradeOf s rows) B rules (p .0) (p .1) (p .2) in
-      greatest-in (s .order) h cut (breaks B) (λ r. r .grade) (reduct B P) (positive (weigh (p .0) (gradeOf s rows (p .0)))) (c .0) (c .1) up
-
-  -- every set fits where nothing is asked
-  free : (A : ℕ) → Fits 0 0 A
-  free A = (λ x i. absurd (true≢false (sym i ∙ has-none x)), λ x i. has-none x)
-
-  against-founded : (A : ℕ) → founded width (reduct A P) A ≡ true → held-against A ≡ worst (s .order) A (reduct A P)
-  unfolding objection
-  against-founded A t = cond-true _ _ _ t
-
-  against-unfounded : (A : ℕ) → founded width (reduct A P) A ≡ false → held-against A ≡ s .order .top
-  unfolding objection
-  against-unfounded A t = cond-false _ _ _ t
+      let b = broken-out A P (a .0) (a .1) (a .2) in
+      let q = graded-out (gradeOf s rows) rules (b .0) (b .1) in
+      let g = gradeOf s rows (q .0) in
+      let p = least (q .0) (q .1) (subst (Fails A) (q .2) (b .2)) in
+      let k = gradeOf s rows (p .0) in
+      let low : rankAmong (s .order) (grades s rows rules) g ≤ rankAmong (s .order) (grades s rows rules) k = omega (arith, p .3, ranked (q .0) (q .1), ranked (p .0) (p .1)) in
+      let is : a .0 .grade ≡ g = ap (λ (r : Rule G). r .grade) (b .3 ∙ ap positive (q .2)) in
+      let up = cut .up g k (rank-keeps (s .order) (grades s rows rules) g k (grade-among s rows rules (p .0) (p .1)) low) (ap h (sym is) ∙ a .3) in
+      let c = broken-in B P (weigh (p .0) k) (graded-in (gradeOf s rows) rules (p .0) (p .1)) (p .2) in
+      greatest-in (s .order) h cut (breaks B) (λ r. r .grade) (reduct B P) (positive (weigh (p .0) k)) (c .0) (c .1) up
 
   candidate : (A : ℕ) → A < 2 ^ width → founded width (reduct A P) A ≡ true → Candidate rules 0 0 A
-  candidate A l t = record { below = l; founds = sym (founded-same s width A rules rows) ∙ t; fits = free A }
+  candidate A l t = record { below = l; founds = sym (founded-same s width A rules rows) ∙ t; fits = fits-any A }
 
   -- the set objected to least gives the conflict
   pub least-conflict : (A : ℕ) → LeastObjected rules 0 0 A → held-against A ≡ conflict (s .order) width P
@@ -98,9 +92,9 @@ module _ {G R : Type 0} (s : Scaled G R) (rules : List PlainRule) (rows : List R
       (subst (λ (g : G). s .order .atMost (held-against A) g ≡ true) (at .3)
       (⊎-elim
       (λ (t : founded width (reduct B P) B ≡ true).
-      subst (λ (g : G). s .order .atMost g (held-against B) ≡ true) (sym (against-founded A (founded-same s width A rules rows ∙ a .candidate .founds)))
-      (subst (λ (g : G). s .order .atMost (worst (s .order) A (reduct A P)) g ≡ true) (sym (against-founded B t)) (worst-least A B (a .least B (candidate B (at .1) t)))))
-      (λ t. subst (λ (g : G). s .order .atMost (held-against A) g ≡ true) (sym (against-unfounded B t)) (s .order .greatest (held-against A)))
+      subst (λ (g : G). s .order .atMost g (held-against B) ≡ true) (sym (objection-founded (s .order) width (reduct A P) A (founded-same s width A rules rows ∙ a .candidate .founds)))
+      (subst (λ (g : G). s .order .atMost (worst (s .order) A (reduct A P)) g ≡ true) (sym (objection-founded (s .order) width (reduct B P) B t)) (worst-least A B (a .least B (candidate B (at .1) t)))))
+      (λ t. subst (λ (g : G). s .order .atMost (held-against A) g ≡ true) (sym (objection-unfounded (s .order) width (reduct B P) B t)) (s .order .greatest (held-against A)))
       (cases-bool (founded width (reduct B P) B))))
       (least .below A (a .candidate .below) refl)
 
@@ -108,4 +102,4 @@ module _ {G R : Type 0} (s : Scaled G R) (rules : List PlainRule) (rows : List R
   pub no-conflict : NoSuch (Candidate rules 0 0) → s .order .top ≡ conflict (s .order) width P
   no-conflict none =
       let at = conflict-least (s .order) width P .attained 0 (omega arith) refl in
-      ⊎-elim (λ t. absurd (none (at .0) (candidate (at .0) (at .1) t))) (λ t. sym (against-unfounded (at .0) t) ∙ at .3) (cases-bool (founded width (reduct (at .0) P) (at .0)))
+      ⊎-elim (λ t. absurd (none (at .0) (candidate (at .0) (at .1) t))) (λ t. sym (objection-unfounded (s .order) width (reduct (at .0) P) (at .0) t) ∙ at .3) (cases-bool (founded width (reduct (at .0) P) (at .0)))

@@ -1,46 +1,35 @@
 -- The greatest grade of a broken rule, one rule after the other.
-use mathlib.Core.Path.{_≡_, refl, sym, ap, ap₂, subst, _∙_}
-use mathlib.Core.Bool.{Bool, true, false, not, cond, _&&_}
+use mathlib.Core.Path.{_≡_, sym, ap, ap₂, _∙_}
 use mathlib.Core.List.{List, [], _∷_, _++_}
-use mathlib.Core.Logic.{_⊎_, inl, inr, ⊎-elim}
+use mathlib.Core.Logic.{⊎-elim}
 use Prim.Native.Nat.{ℕ, _+_, _<_, _≤_}
 use lib.ListN.{length, getD, take}
-use Rattle.std.specs.Orderings.{Decides}
 use Rattle.std.proofs.shelf.Lists.{take-all}
-use Rattle.std.proofs.shelf.Tests.{cases-bool, and-from, and-parts, not-from-false, not-true, both-ways}
+use Rattle.std.proofs.shelf.Tests.{cases-bool}
 use Rattle.scale.specs.Laws.{Order, Scaled, greater}
-use Rattle.semantics.specs.Sets.{has, within, disjoint}
+use Rattle.semantics.specs.Sets.{disjoint}
 use Rattle.semantics.specs.Rules.{Rule, positive, reduct, breaks, greatestOf, worst}
 use Rattle.semantics.specs.Plain.{weigh, gradeOf, weighted, Broken}
 use Rattle.semantics.specs.declared.rule.PlainRule.{PlainRule}
-use Rattle.semantics.proofs.Sets.{decides-within, decides-disjoint}
+use Rattle.semantics.proofs.Sets.{false-from, decides-disjoint}
+use Rattle.semantics.proofs.Reducts.{decides-breaks}
 use Rattle.grading.proofs.Fronts.{weighted-more, reduct-kept, reduct-dropped, greatest-passed, greatest-failed}
-
--- a broken rule stands in the reduct, and is broken there; any other is dropped, or is not broken
-module _ {G : Type 0} (A : ℕ) (r : PlainRule) (g : G) where
-  pub broken-stands : Broken A r → (disjoint (r .neg) A ≡ true) × (breaks A (positive (weigh r g)) ≡ true)
-  unfolding breaks positive
-  broken-stands b =
-      (decides-disjoint (r .neg) A .1 (b .0), and-from (within (r .pos) A) _ (decides-within (r .pos) A .1 (b .1)) (not-from-false _ (b .2)))
-
-  pub stands-broken : disjoint (r .neg) A ≡ true → breaks A (positive (weigh r g)) ≡ true → Broken A r
-  unfolding breaks positive
-  stands-broken d b =
-      let p = and-parts (within (r .pos) A) _ b in
-      (decides-disjoint (r .neg) A .0 d, decides-within (r .pos) A .0 (p .0), not-true _ (p .1))
 
 module _ {G : Type 0} (o : Order G) (A : ℕ) (P : List (Rule G)) (r : PlainRule) (g : G) where
   pub worst-raised : Broken A r → worst o A (reduct A (P ++ weigh r g ∷ [])) ≡ greater o g (worst o A (reduct A P))
   unfolding worst positive
   worst-raised b =
-      let p = broken-stands A r g b in
-      ap (worst o A) (reduct-kept A P (weigh r g) (p .0)) ∙ greatest-passed o (breaks A) (λ q. q .grade) (reduct A P) (positive (weigh r g)) (p .1)
+      ap (worst o A) (reduct-kept A P (weigh r g) (decides-disjoint (r .neg) A .1 (b .0)))
+      ∙ greatest-passed o (breaks A) (λ q. q .grade) (reduct A P) (positive (weigh r g)) (decides-breaks A (positive (weigh r g)) .1 (b .1, b .2))
 
   pub worst-kept : (Broken A r → ⊥) → worst o A (reduct A (P ++ weigh r g ∷ [])) ≡ worst o A (reduct A P)
-  unfolding worst
+  unfolding worst positive
   worst-kept none =
       ⊎-elim
-      (λ d. ap (worst o A) (reduct-kept A P (weigh r g) d) ∙ greatest-failed o (breaks A) (λ q. q .grade) (reduct A P) (positive (weigh r g)) (⊎-elim (λ b. absurd (none (stands-broken A r g d b))) (λ b. b) (cases-bool (breaks A (positive (weigh r g))))))
+      (λ d.
+      ap (worst o A) (reduct-kept A P (weigh r g) d)
+      ∙ greatest-failed o (breaks A) (λ q. q .grade) (reduct A P) (positive (weigh r g))
+      (false-from _ λ t. let b = decides-breaks A (positive (weigh r g)) .0 t in none (decides-disjoint (r .neg) A .0 d, b .0, b .1)))
       (λ d. ap (worst o A) (reduct-dropped A P (weigh r g) d))
       (cases-bool (disjoint (r .neg) A))
 

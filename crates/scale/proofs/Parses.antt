@@ -23,7 +23,3 @@ module _ {G : Type 0} (t : Texts G) where
   pub parsed-is : (bytes : List ℕ) (r : Option G) → Parsed (t .of) bytes r → r ≡ t .parse bytes
   parsed-is bytes None h = parse-other bytes h
   parsed-is bytes (Some g) e = parse-text bytes g e
-
-  -- no two grades have the same text
-  pub text-same : (g h : G) → t .of g ≡ t .of h → g ≡ h
-  text-same g h e = let p : Some g ≡ Some h = sym (t .reads g) ∙ ap (t .parse) e ∙ t .reads h in cc

@@ -5,7 +5,6 @@ pub mod Singles
 pub mod Forced
 pub mod Upper
 pub mod Split
-pub mod Reducts
 pub mod Objected
 pub mod Pivots
 pub mod Stables

@@ -3,32 +3,36 @@ use mathlib.Core.Path.{_≡_, sym, subst, _∙_}
 use mathlib.Core.Logic.{⊎-elim}
 use mathlib.Core.List.{List}
 use Prim.Native.Nat.{ℕ, _+_, _^_, _<_, _≤_}
+use borrow.Author.Count.{below-more}
 use native.Mathlib.Omega.{arith}
 use lib.Bits.{bitAnd}
 use Rattle.std.specs.Options.{Cases}
 use Rattle.std.specs.Orderings.{Decides}
 use Rattle.std.specs.declared.option.Option.{Option}
-use Rattle.std.specs.declared.option.Option.the-variants.{Some, None}
-use Rattle.std.proofs.shelf.Tests.{cases-lt, cases-order}
+use Rattle.std.proofs.shelf.Tests.{cases-order}
 use Rattle.semantics.specs.Sets.{width, has, adding, others, Out}
 use Rattle.semantics.specs.declared.rule.PlainRule.{PlainRule}
-use Rattle.semantics.proofs.Sets.{has-none, not-both, has-below, agree-lt}
+use Rattle.semantics.proofs.Sets.{has-below, agree-lt}
+use Rattle.semantics.proofs.Members.{option-weaker}
 use Rattle.search.specs.Admissible.{Fitting, Least, NoSuch, Stable}
 use Rattle.search.specs.Listing.{Later, Branch}
+use Rattle.search.proofs.Forced.{fits-any}
 use Rattle.search.proofs.Pivots.{Pivot, pivot, wanted-turns, wanted-agrees, agrees-wanted}
 use Rattle.search.proofs.Stables.{stable-admissible, admissible-stable}
 
 -- one property in place of another that the same numbers have
 carried : (P Q : ℕ → Type 0) → ((a : ℕ) → P a → Q a) → ((a : ℕ) → Q a → P a) → (o : Option ℕ) → Cases o (NoSuch P) (Least P) → Cases o (NoSuch Q) (Least Q)
-carried P Q to from None none = λ b q. none b (from b q)
-carried P Q to from (Some a) f = record { passes = to a (f .passes); least = λ b q. f .least b (from b q) }
+carried P Q to from o h =
+    option-weaker o (NoSuch P) (NoSuch Q) (Least P) (Least Q) h
+    (λ none b q. none b (from b q))
+    (λ a f. record { passes = to a (f .passes); least = λ b q. f .least b (from b q) })
 
 module _ (rs : List PlainRule) where
   pub first-listed : (o : Option ℕ) → Cases o (NoSuch (Fitting 0 rs 0 0)) (Least (Fitting 0 rs 0 0)) → Cases o (NoSuch (Stable rs)) (Least (Stable rs))
   first-listed =
       carried (Fitting 0 rs 0 0) (Stable rs)
       (λ a f. admissible-stable rs a (f .0))
-      (λ a t. (stable-admissible rs a t, (λ x i. not-both x 0 i (has-none x), λ x i. has-none x)))
+      (λ a t. (stable-admissible rs a t, fits-any a))
 
   module _ (set j : ℕ) where
     module _ (higher : ℕ) (low : set < 2 ^ width) (up : (x : ℕ) → Decides (has higher x) ((j < x) × (x < width))) where
@@ -54,8 +58,7 @@ module _ (rs : List PlainRule) where
     Passed n = (j : ℕ) → j < n → Out j set → NoSuch (Branch rs set j)
 
     pub passed-more : (n : ℕ) → Passed n → (Out n set → NoSuch (Branch rs set n)) → Passed (n + 1)
-    passed-more n passed here j l o =
-        ⊎-elim (λ h. passed j h o) (λ h. let e : n ≡ j = omega arith in subst (λ (k : ℕ). NoSuch (Branch rs set k)) e (here (subst (λ (k : ℕ). Out k set) (sym e) o))) (cases-lt j n)
+    passed-more = below-more (λ j. Out j set → NoSuch (Branch rs set j))
 
     -- past the last atom nothing is left
     pub later-none : (n : ℕ) → Passed n → width ≤ n → NoSuch (Later rs set)

@@ -1,27 +1,29 @@
 -- The rules that a set breaks, by rank, and the candidate that is objected to least.
-use mathlib.Core.Path.{_≡_, refl, sym, ap, subst, _∙_}
+use mathlib.Core.Path.{_≡_, sym, subst, _∙_}
 use mathlib.Core.Logic.{_⊎_, inl, inr, ⊎-elim}
-use mathlib.Core.Bool.{false, not, _&&_}
+use mathlib.Core.Bool.{_&&_}
 use mathlib.Core.List.{List, [], _∷_, _++_}
-use Prim.Native.Nat.{ℕ, zero, suc, _+_, _-_, _^_, _<_, _≤_, max}
+use Prim.Native.Nat.{ℕ, zero, suc, _-_, _^_, _<_, _≤_, max}
 use native.Mathlib.Omega.{arith}
-use lib.ListN.{length, getD, take}
+use lib.ListN.{length, getD}
 use Rattle.std.specs.Options.{Cases, valueOr}
 use Rattle.std.specs.Orderings.{Decides}
 use Rattle.std.specs.declared.option.Option.{Option}
 use Rattle.std.specs.declared.option.Option.the-variants.{Some, None}
 use Rattle.std.specs.shelf.Lists.{Has}
-use Rattle.std.proofs.shelf.Elements.{has-append-left, has-push, has-push-cases}
-use Rattle.std.proofs.shelf.Lists.{take-more, getD-default}
-use Rattle.std.proofs.shelf.Tests.{both-ways, cases-bool, cases-lt, and-parts, and-from, not-true, not-from-false}
-use Rattle.semantics.specs.Sets.{has, within, disjoint}
-use Rattle.semantics.specs.Rules.{Rule, Among, positive, reduct, breaks}
-use Rattle.semantics.specs.Plain.{weigh, byRank, Broken}
+use Rattle.std.proofs.shelf.Elements.{has-append-left, has-append-right, has-push, has-push-cases}
+use Rattle.std.proofs.shelf.Lists.{getD-default}
+use Rattle.std.proofs.shelf.Tests.{both-ways, cases-bool, cases-lt}
+use Rattle.std.proofs.shelf.Ways.{decides-and}
+use Rattle.semantics.specs.Sets.{disjoint}
+use Rattle.semantics.specs.Rules.{breaks}
+use Rattle.semantics.specs.Plain.{weigh, Broken}
 use Rattle.semantics.specs.declared.rule.PlainRule.{PlainRule}
-use Rattle.semantics.proofs.Sets.{decides-within, decides-disjoint}
+use Rattle.semantics.proofs.Sets.{decides-disjoint}
+use Rattle.semantics.proofs.Reducts.{decides-breaks}
 use Rattle.search.specs.Admissible.{Fitting, NoSuch, Candidate, LeastObjected}
 use Rattle.search.specs.Objection.{Unbroken, Worst}
-use Rattle.search.proofs.Reducts.{broken-in, broken-out}
+use Rattle.search.proofs.Bridge.{keeps-out, keeps-in}
 
 -- ---- the worst of one rule more
 
@@ -63,25 +65,12 @@ module _ (A : ℕ) (xs : List PlainRule) (x : PlainRule) where
       (λ (l : n ≤ x .rank). record { rule = x; stands = has-push xs x; broken = b; ranked = omega arith; most = most })
       (cases-lt (x .rank) n)
 
-pub taken-more : (xs : List PlainRule) (k : ℕ) (x : PlainRule) → k < length xs → x ≡ getD xs k x → take (k + 1) xs ≡ take k xs ++ x ∷ []
-taken-more xs k x l e = take-more xs k x l ∙ ap (λ y. take k xs ++ y ∷ []) (sym e)
-
 -- ---- a rule of no lower rank than t that the set breaks, or none
 
-decides-broken : (A : ℕ) (q : PlainRule) → Decides (disjoint (q .neg) A && (within (q .pos) A && not (has A (q .head .number)))) (Broken A q)
-decides-broken A q = (
-  λ t.
-      let p = and-parts _ _ t in
-      let s = and-parts _ _ (p .1) in
-      (decides-disjoint (q .neg) A .0 (p .0), decides-within (q .pos) A .0 (s .0), not-true _ (s .1)),
-  λ b. and-from _ _ (decides-disjoint (q .neg) A .1 (b .0)) (and-from _ _ (decides-within (q .pos) A .1 (b .1)) (not-from-false _ (b .2))),
-)
-
-has-first : (x : PlainRule) (xs : List PlainRule) → Has (x ∷ xs) x
-has-first x xs = (0, omega arith, λ d. refl)
-
-has-later : (x : PlainRule) (xs : List PlainRule) (q : PlainRule) → Has xs q → Has (x ∷ xs) q
-has-later x xs q h = (suc (h .0), omega (arith, h .1), h .2)
+decides-broken : (A : ℕ) (q : PlainRule) → Decides (disjoint (q .neg) A && breaks A (weigh q (q .rank))) (Broken A q)
+decides-broken A q =
+    let d = decides-and _ _ (decides-disjoint (q .neg) A) (decides-breaks A (weigh q (q .rank))) in
+    (λ t. let b = d .0 t in (b .0, b .1 .0, b .1 .1), λ b. d .1 (b .0, (b .1, b .2)))
 
 has-cases : (x : PlainRule) (xs : List PlainRule) (q : PlainRule) → Has (x ∷ xs) q → (x ≡ q) ⊎ Has xs q
 has-cases x xs q h = go (h .0) (h .1) (h .2 q)
@@ -101,7 +90,7 @@ module _ (t A : ℕ) where
 
   above-or-below : (rs : List PlainRule) → Above rs ⊎ Below rs
   above-or-below [] = inr (λ q h b. absurd (omega (arith, h .1)))
-  above-or-below (r ∷ rs) = ⊎-elim (λ p. inl (p .0, has-later r rs (p .0) (p .1), p .2, p .3)) here (above-or-below rs)
+  above-or-below (r ∷ rs) = ⊎-elim (λ p. inl (p .0, has-append-right (r ∷ []) rs (p .0) (p .1), p .2, p .3)) here (above-or-below rs)
     where
       here : Below rs → Above (r ∷ rs) ⊎ Below (r ∷ rs)
       here rest =
@@ -109,44 +98,26 @@ module _ (t A : ℕ) where
           (λ (l : r .rank < t). inr (λ q h b. ⊎-elim (λ e. subst (λ (x : PlainRule). x .rank < t) e l) (λ i. rest q i b) (has-cases r rs q h)))
           (λ (l : t ≤ r .rank).
           ⊎-elim
-          (λ u. inl (r, has-first r rs, decides-broken A r .0 u, l))
+          (λ u. inl (r, has-append-left (r ∷ []) rs r (has-push [] r), decides-broken A r .0 u, l))
           (λ u. inr (λ q h b. ⊎-elim (λ e. absurd (both-ways _ u (decides-broken A r .1 (subst (Broken A) (sym e) b)))) (λ i. rest q i b) (has-cases r rs q h)))
-          (cases-bool (disjoint (r .neg) A && (within (r .pos) A && not (has A (r .head .number))))))
+          (cases-bool (disjoint (r .neg) A && breaks A (weigh r (r .rank)))))
           (cases-lt (r .rank) t)
 
 -- ---- the candidates
 
 module _ (rs : List PlainRule) (present absent : ℕ) where
-  -- an admissible set that fits is a candidate, and breaks no rule from the threshold on
-  pub fitting-candidate : (t A : ℕ) → Fitting t rs present absent A → Candidate rs present absent A
-  fitting-candidate t A f = record { below = f .0 .below; founds = f .0 .founds; fits = f .1 }
-
-  pub fitting-below : (t A : ℕ) → Fitting t rs present absent A → (q : PlainRule) → Has rs q → Broken A q → q .rank < t
-  unfolding positive
-  fitting-below t A f q h b =
-      ⊎-elim (λ l. l)
-      (λ (l : t ≤ q .rank). let i = broken-in (λ (r : PlainRule). r .rank) A rs q h b in absurd (both-ways _ (f .0 .keeps (positive (weigh q (q .rank))) (i .0) l) (i .1)))
-      (cases-lt (q .rank) t)
+  -- an admissible set that fits breaks no rule from the threshold on
+  fitting-below : (t A : ℕ) → Fitting t rs present absent A → (q : PlainRule) → Has rs q → Broken A q → q .rank < t
+  fitting-below t A f = keeps-out rs A t (f .0 .keeps)
 
   -- a candidate that breaks no rule from the threshold on is admissible
-  pub candidate-fitting : (t A : ℕ) → Candidate rs present absent A → ((q : PlainRule) → Has rs q → Broken A q → q .rank < t) → Fitting t rs present absent A
-  candidate-fitting t A c low = (record { below = c .below; founds = c .founds; keeps = keeps }, c .fits)
-    where
-      keeps : (r : Rule ℕ) → Among r (reduct A (byRank rs)) → t ≤ r .grade → breaks A r ≡ false
-      keeps r i l =
-          ⊎-elim
-          (λ e. let q = broken-out (λ (r : PlainRule). r .rank) A rs r i e in absurd (omega (arith, low (q .0) (q .1) (q .2), q .3)))
-          (λ e. e)
-          (cases-bool (breaks A r))
+  candidate-fitting : (t A : ℕ) → Candidate rs present absent A → ((q : PlainRule) → Has rs q → Broken A q → q .rank < t) → Fitting t rs present absent A
+  candidate-fitting t A c low = (record { below = c .below; founds = c .founds; keeps = keeps-in rs A t low }, c .fits)
 
   -- ---- the rounds: the best candidate so far, with the rank of the worst rule that it breaks; none before the first round
 
   abbrev pub Best : Option ℕ → ℕ → Type 0
   Best best n = Cases best (n ≡ 2 ^ 64 - 1) (λ a. Candidate rs present absent a × Worst rs a n)
-
-  -- a candidate that breaks no rule is the least objected to
-  pub objected-whole : (t A : ℕ) → Fitting t rs present absent A → Unbroken rs A → LeastObjected rs present absent A
-  objected-whole t A f none = record { candidate = fitting-candidate t A f; least = λ B c q h b. absurd (none q h b) }
 
   -- the next threshold is lower
   pub worst-falls : (t A n : ℕ) → Fitting t rs present absent A → Worst rs A n → n < t

@@ -7,9 +7,9 @@ use native.Mathlib.Nat.{pow-suc}
 use lib.Bits.{bitAnd}
 use lib.Pow.{pow-pos}
 use Rattle.std.specs.Orderings.{Decides}
-use Rattle.std.proofs.shelf.Tests.{cases-bool, cases-lt, and-parts, and-from, eq-eqb, ne-eqb}
+use Rattle.std.proofs.shelf.Tests.{cases-bool, cases-lt, eq-eqb, ne-eqb}
 use Rattle.semantics.specs.Sets.{has, adding, others, In, Out}
-use Rattle.semantics.proofs.Sets.{has-low, has-next, has-and, has-none, below-power, same-truth, not-both, out-from, in-adding, adding-in, adding-keeps, in-others, out-others, others-below, has-below, below-width}
+use Rattle.semantics.proofs.Sets.{has-low, has-next, in-and, and-in, has-none, below-power, same-truth, not-both, out-from, in-adding, adding-in, adding-keeps, in-others, out-others, others-below, has-below, below-width}
 use Rattle.search.specs.Admissible.{Fits}
 
 -- A lacks the atom, B has it, and they agree above it
@@ -89,12 +89,6 @@ module _ (w k : ℕ) (l : k < w) where
   )
 
 -- ---- the sets that have an atom k, and agree with a set above it
-
-in-and : (A B x : ℕ) → In x (bitAnd A B) → In x A × In x B
-in-and A B x i = and-parts (has A x) (has B x) (sym (has-and A B x) ∙ i)
-
-and-in : (A B x : ℕ) → In x A → In x B → In x (bitAnd A B)
-and-in A B x i j = has-and A B x ∙ and-from (has A x) (has B x) i j
 
 -- `higher` has the atoms above k
 module _ (w set k higher : ℕ) (low : set < 2 ^ w) (up : (x : ℕ) → Decides (has higher x) ((k < x) × (x < w))) where

@@ -7,9 +7,9 @@ use lib.Bits.{bitOr}
 use Rattle.std.proofs.shelf.Tests.{cases-bool, cases-lt, cases-eq}
 use Rattle.std.specs.Options.{Cases}
 use Rattle.std.specs.declared.option.Option.{Option}
-use Rattle.std.specs.declared.option.Option.the-variants.{Some, None}
 use Rattle.semantics.specs.Sets.{width, has, adding, others, In, Out, Sub, Apart}
-use Rattle.semantics.proofs.Sets.{has-past, has-below, same-atoms, sub-anti, agree-lt, in-or, or-in-left, or-in-right, in-adding, adding-in, adding-keeps, in-others, out-others, others-below, not-both, out-from}
+use Rattle.semantics.proofs.Sets.{has-past, has-below, same-atoms, sub-anti, agree-lt, in-or, or-in-left, or-in-right, in-adding, adding-in, adding-keeps, in-others, out-others, others-below, not-both, out-from, apart-sym, apart-sub}
+use Rattle.semantics.proofs.Members.{option-weaker}
 use Rattle.search.specs.Admissible.{Fits, Least, NoSuch}
 use Rattle.search.specs.Narrowed.{Narrowed, Of, DecidedFrom}
 use Rattle.search.proofs.Forced.{none-narrowed}
@@ -58,8 +58,8 @@ fits-present n p a b f i = (λ j t. ⊎-elim (f .0 j) (λ q. subst (λ x. In x b
 
 absent-fits : (n p a b : ℕ) → Fits p (adding a n) b → Fits p a b × Out n b
 absent-fits n p a b f = (
-  (f .0, λ j i. out-from j a (λ o. not-both j (adding a n) (adding-keeps a n j o) (f .1 j i))),
-  out-from n b (λ i. not-both n (adding a n) (adding-in a n) (f .1 n i)),
+  (f .0, apart-sub b a (adding a n) (adding-keeps a n) (f .1)),
+  apart-sym b (adding a n) (f .1) n (adding-in a n),
 )
 
 present-fits : (n p a b : ℕ) → Fits (adding p n) a b → Fits p a b
@@ -67,7 +67,7 @@ present-fits n p a b f = (λ j i. f .0 j (adding-keeps p n j i), f .1)
 
 fits-looser : (K : ℕ → Type 0) (p a p′ a′ b : ℕ) → Narrowed K p a p′ a′ → Fits p′ a′ b → Fits p a b
 fits-looser K p a p′ a′ b n fit =
-    (λ k i. fit .0 k (n .keeps-present k i), λ k i. out-from k a (λ o. not-both k a′ (n .keeps-absent k o) (fit .1 k i)))
+    (λ k i. fit .0 k (n .keeps-present k i), apart-sub b a a′ (n .keeps-absent) (fit .1))
 
 -- two sets that fit agree from k up
 agree : (k p a b c : ℕ) → DecidedFrom k p a → b < 2 ^ width → c < 2 ^ width → Fits p a b → Fits p a c → (j : ℕ) → k ≤ j → has b j ≡ has c j
@@ -75,7 +75,7 @@ agree k p a b c d lb lc fb fc j l =
     ⊎-elim
     (λ m. ⊎-elim
     (λ i. fb .0 j i ∙ sym (fc .0 j i))
-    (λ o. let gone : (e : ℕ) → Fits p a e → Out j e = λ e f. out-from j e (λ i. not-both j a o (f .1 j i)) in gone b fb ∙ sym (gone c fc))
+    (λ o. apart-sym b a (fb .1) j o ∙ sym (apart-sym c a (fc .1) j o))
     (in-or p a j (d .decided j l m)))
     (λ up. has-past width b j lb up ∙ sym (has-past width c j lc up))
     (cases-lt j width)
@@ -143,5 +143,7 @@ module _ (K : ℕ → Type 0) (low : (A : ℕ) → K A → A < 2 ^ width) (n p a
   found-absent A l = least-narrowed K p a p′ a′ m A (least-absent K low n p′ a′ d A l)
 
   pub then-present : NoSuch (Of K p′ (adding a′ n)) → (o : Option ℕ) → Cases o (NoSuch (Of K (adding p′ n) a′)) (Least (Of K (adding p′ n) a′)) → Cases o (NoSuch (Of K p a)) (Least (Of K p a))
-  then-present none (Some A) l = least-narrowed K p a p′ a′ m A (least-present K low n p′ a′ d none A l)
-  then-present none None h = none-narrowed K p a p′ a′ m (none-both K low n p′ a′ d none h)
+  then-present none o h =
+      option-weaker o (NoSuch (Of K (adding p′ n) a′)) (NoSuch (Of K p a)) (Least (Of K (adding p′ n) a′)) (Least (Of K p a)) h
+      (λ k. none-narrowed K p a p′ a′ m (none-both K low n p′ a′ d none k))
+      (λ A l. least-narrowed K p a p′ a′ m A (least-present K low n p′ a′ d none A l))

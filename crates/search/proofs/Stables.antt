@@ -2,7 +2,7 @@
 use mathlib.Core.Path.{_≡_, refl, sym, subst, _∙_}
 use mathlib.Core.Bool.{Bool, true}
 use mathlib.Core.List.{List}
-use Prim.Native.Nat.{ℕ, _<_, _^_}
+use Prim.Native.Nat.{ℕ}
 use native.Mathlib.Omega.{arith}
 use Rattle.scale.specs.Laws.{above}
 use Rattle.semantics.specs.Sets.{width}
@@ -11,15 +11,13 @@ use Rattle.semantics.specs.Plain.{byRank, held, truth}
 use Rattle.semantics.specs.Statements.{Fits, Graded}
 use Rattle.semantics.specs.declared.rule.PlainRule.{PlainRule}
 use Rattle.search.specs.Admissible.{Admissible, Stable}
-use Rattle.search.proofs.Reducts.{graded-out}
 use Rattle.semantics.proofs.Alike.{Alike, alike-sym, alike-weigh, alike-reduct, alike-founded, alike-unbroken}
+use Rattle.semantics.proofs.Plain.{graded-out, graded-fits}
 use Rattle.semantics.proofs.Stable.{stable-from, stable-out}
 
 module _ (rs : List PlainRule) where
   held-fits : Fits width (held rs)
-  held-fits r i =
-      let q = graded-out (λ (x : PlainRule). true) rs r i in
-      subst (λ (x : Rule Bool). (x .head < width) × (x .pos < 2 ^ width)) (sym (q .2)) (q .0 .head .ok, q .0 .low .0)
+  held-fits = graded-fits (λ (x : PlainRule). true) rs
 
   held-graded : Graded truth (held rs)
   unfolding above

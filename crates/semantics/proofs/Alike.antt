@@ -26,10 +26,6 @@ Alike [] (s ∷ Q) = ⊥
 Alike (r ∷ P) [] = ⊥
 Alike (r ∷ P) (s ∷ Q) = Twin r s × Alike P Q
 
-pub alike-refl : {G : Type 0} (P : List (Rule G)) → Alike P P
-alike-refl [] = tt
-alike-refl (r ∷ P) = (record { head = refl; pos = refl; neg = refl }, alike-refl P)
-
 pub alike-sym : {G H : Type 0} (P : List (Rule G)) (Q : List (Rule H)) → Alike P Q → Alike Q P
 alike-sym [] [] a = tt
 alike-sym [] (s ∷ Q) a = absurd a

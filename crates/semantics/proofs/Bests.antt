@@ -1,12 +1,12 @@
 -- What a cut says of a least and of a greatest.
-use mathlib.Core.Path.{_≡_, refl, sym, ap, _∙_, subst}
-use mathlib.Core.Bool.{Bool, true, false, not, cond, _&&_, _||_, false≢true, true≢false}
-use mathlib.Core.Logic.{_⊎_, inl, inr, ⊎-elim}
+use mathlib.Core.Path.{_≡_, refl, sym, ap, _∙_}
+use mathlib.Core.Bool.{Bool, true, false, cond, true≢false}
+use mathlib.Core.Logic.{inl, inr, ⊎-elim}
 use mathlib.Core.List.{List, [], _∷_}
-use Prim.Native.Nat.{ℕ, zero, suc, _<_, _≤_}
+use Prim.Native.Nat.{ℕ, zero, suc, _<_}
 use native.Mathlib.Omega.{arith}
 use Rattle.std.proofs.shelf.Tests.{and-parts, and-from, and-cases, or-cases, or-left, or-right}
-use Rattle.scale.specs.Laws.{Order, greater, lesser, above}
+use Rattle.scale.specs.Laws.{Order, greater, lesser}
 use Rattle.semantics.specs.Rules.{Rule, Among, leastBelow, greatestOf}
 use Rattle.semantics.proofs.Cuts.{Cut, cut-greater, cut-lesser}
 use Rattle.semantics.proofs.Count.{at-last}

@@ -1,10 +1,11 @@
 -- A cut of a scale: a set of grades that holds the top, not the bottom, and with a grade each one above it.
 -- Every cut turns the greater of two grades into `||` and the lesser into `&&`, and the cuts tell grades apart:
 -- so what is to be shown of grades is shown of each cut, where a grade is a truth value.
-use mathlib.Core.Path.{_≡_, refl, sym, ap, _∙_, subst}
+use mathlib.Core.Path.{_≡_, refl, sym, ap, _∙_}
 use mathlib.Core.Bool.{Bool, true, false, not, cond, _&&_, _||_, false≢true, true≢false}
-use mathlib.Core.Logic.{_⊎_, inl, inr, ⊎-elim}
+use mathlib.Core.Logic.{⊎-elim}
 use Rattle.scale.specs.Laws.{Order, greater, lesser, above}
+use Rattle.semantics.proofs.Sets.{sub-and-at}
 
 pub record Cut {G : Type 0} (o : Order G) (h : G → Bool) : Type 0 where
   pub out : h (o .bottom) ≡ false
@@ -19,10 +20,6 @@ or-low : (a b : Bool) → (b ≡ true → a ≡ true) → a ≡ (a || b)
 or-low true b f = refl
 or-low false true f = f refl
 or-low false false f = refl
-
-and-low : (a b : Bool) → (a ≡ true → b ≡ true) → a ≡ (a && b)
-and-low true b f = sym (f refl)
-and-low false b f = refl
 
 and-high : (a b : Bool) → (b ≡ true → a ≡ true) → b ≡ (a && b)
 and-high true b f = refl
@@ -50,7 +47,7 @@ module _ {G : Type 0} (o : Order G) where
     cut-lesser a b = go (o .atMost a b) refl
       where
         go : (t : Bool) → o .atMost a b ≡ t → h (cond t a b) ≡ (h a && h b)
-        go true e = and-low (h a) (h b) (cut .up a b e)
+        go true e = sym (sub-and-at (h a) (h b) (cut .up a b e))
         go false e = and-high (h a) (h b) (cut .up b a (other-way a b e))
 
     -- what a cut holds is above the bottom

@@ -9,6 +9,7 @@ use Rattle.std.proofs.shelf.Tests.{leb-true, le-leb, cases-lt}
 use Rattle.scale.specs.Laws.{Order, greater, lesser, above}
 use Rattle.semantics.specs.Sets.{has, within, disjoint, adding, collect}
 use Rattle.semantics.specs.Rules.{Rule, those, positive, reduct, applicable, breaks, heads, derived, founded, leastBelow, greatestOf, worst, gives, step, steps, consequences, support, reading, stable, stableBelow, stableSets, objection, leastAmong, necessity, conflict}
+use Rattle.semantics.specs.Counting.{tally}
 use Rattle.semantics.specs.Statements.{size}
 
 data Level : Type 0 where
@@ -59,7 +60,7 @@ abbrev chain : List (Rule Level)
 chain = rule 0 0 0 high ∷ rule 1 1 0 mid ∷ rule 2 3 0 high ∷ rule 3 8 0 high ∷ rule 2 1 0 low ∷ []
 
 everything : Unit {0}
-unfolding greater lesser above has within disjoint adding collect those positive reduct applicable breaks heads derived founded leastBelow greatestOf worst gives step steps consequences support reading stable stableBelow stableSets objection leastAmong necessity conflict size
+unfolding greater lesser above has within disjoint adding collect those positive reduct applicable breaks heads derived founded leastBelow greatestOf worst gives step steps consequences support reading stable stableBelow stableSets objection leastAmong necessity conflict tally size
 everything = tt
 
 grades : (consequences levels 4 chain 0 ≡ high) × (consequences levels 4 chain 1 ≡ mid) × (consequences levels 4 chain 2 ≡ mid) × (consequences levels 4 chain 3 ≡ none)

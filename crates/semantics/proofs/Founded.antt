@@ -1,5 +1,5 @@
 -- The test `founded` decides `Founded`.
-use mathlib.Core.Path.{_≡_, refl, sym, ap, _∙_, subst}
+use mathlib.Core.Path.{_≡_, refl, sym, _∙_, subst}
 use mathlib.Core.Bool.{Bool, true, not, true≢false}
 use mathlib.Core.Logic.{inl, inr, ⊎-elim}
 use mathlib.Core.List.{List, [], _∷_, _++_, append-assoc, append-nil}
@@ -7,11 +7,11 @@ use Prim.Native.Nat.{ℕ, zero, suc}
 use Rattle.std.proofs.shelf.Tests.{not-true}
 use Rattle.std.specs.shelf.Sorted.{Shuffled}
 use Rattle.std.proofs.shelf.Sorted.{shuffled-refl, shuffled-sym, shuffled-trans}
-use Rattle.semantics.specs.Sets.{has, within, In}
+use Rattle.semantics.specs.Sets.{within, In}
 use Rattle.semantics.specs.Rules.{Rule, Among, those, applicable, derived, founded}
 use Rattle.semantics.specs.Founded.{Founded, Grounded, Heads}
 use Rattle.semantics.specs.Statements.{Fits}
-use Rattle.semantics.proofs.Sets.{has-none, decides-within}
+use Rattle.semantics.proofs.Sets.{decides-within}
 use Rattle.semantics.proofs.Those.{those-in, those-out, in-left, in-right, in-either, in-none, in-shuffled, over, parted}
 use Rattle.semantics.proofs.Reducts.{applicable-sub, applicable-fits}
 use Rattle.semantics.proofs.Derive.{derived-none, derived-out, derived-rises, derived-closed, founded-sub, sub-founded}
@@ -54,7 +54,7 @@ module _ {G : Type 0} (Q : List (Rule G)) where
 
   heads-fired : (n x : ℕ) → In x (derived Q n) → Heads x (fired n)
   unfolding fired ready
-  heads-fired zero x t = absurd (true≢false (sym t ∙ (ap (λ D. has D x) (derived-none Q) ∙ has-none x)))
+  heads-fired zero x t = derived-none Q x t
   heads-fired (suc n) x t =
       let a = derived-out Q n x t in
       let r = a .0 in

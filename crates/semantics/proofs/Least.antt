@@ -6,18 +6,18 @@ use mathlib.Core.List.{List, [], _∷_}
 use Prim.Native.Nat.{ℕ, zero, suc, _<_, _^_}
 use native.Mathlib.Omega.{arith}
 use lib.Pow.{pow-pos}
-use Rattle.std.proofs.shelf.Tests.{cases-bool, cond-true, cond-false}
+use Rattle.std.proofs.shelf.Tests.{cases-bool}
 use Rattle.scale.specs.Laws.{Order, greater, lesser}
 use Rattle.semantics.specs.Sets.{has}
 use Rattle.semantics.specs.Rules.{Rule, Among, positive, reduct, breaks, founded, leastBelow, greatestOf, worst, objection, leastAmong, necessity, conflict, reading}
 use Rattle.semantics.specs.Statements.{Fits, LeastOf}
-use Rattle.semantics.proofs.Sets.{has-none}
+use Rattle.semantics.proofs.Sets.{none-in}
 use Rattle.semantics.proofs.Cuts.{le-by-cuts}
 use Rattle.semantics.proofs.Count.{at-last}
 use Rattle.semantics.proofs.Bests.{least-out}
 use Rattle.semantics.proofs.Reducts.{reduct-out, reduct-fits}
 use Rattle.semantics.proofs.Derive.{sub-founded}
-use Rattle.semantics.proofs.Objections.{necessity-is-grade}
+use Rattle.semantics.proofs.Objections.{objection-founded, objection-unfounded, necessity-is-grade}
 
 module _ {G : Type 0} (o : Order G) where
   module _ (test : ℕ → Bool) (f : ℕ → G) where
@@ -95,22 +95,21 @@ module _ {G : Type 0} (o : Order G) where
 
     -- the objection to a founded set is the bottom or the grade of a rule
     held-at : (A : ℕ) (g : G) → founded w (reduct A P) A ≡ true → objection o w (reduct A P) A ≡ g → (g ≡ o .bottom) ⊎ ((r : Rule G) × Among r P × (r .grade ≡ g))
-    unfolding objection worst positive
+    unfolding worst positive
     held-at A g t e =
-        let is : worst o A (reduct A P) ≡ g = sym (cond-true (founded w (reduct A P) A) (worst o A (reduct A P)) (o .top) t) ∙ e in
+        let is : worst o A (reduct A P) ≡ g = sym (objection-founded o w (reduct A P) A t) ∙ e in
         ⊎-elim (λ b. inl (sym is ∙ b))
         (λ a. let s = reduct-out A P (a .0) (a .1) in inr (s .0, s .1, ap (λ (r : Rule G). r .grade) (sym (s .3)) ∙ (a .2 ∙ is)))
         (greatest-fork (breaks A) (λ r. r .grade) (reduct A P))
 
     empty-founded : founded w (reduct 0 P) 0 ≡ true
-    empty-founded = sub-founded w (reduct 0 P) 0 (λ x t. absurd (true≢false (sym t ∙ has-none x)))
+    empty-founded = sub-founded w (reduct 0 P) 0 (λ x t. none-in x t)
 
     pub conflict-held : (conflict o w P ≡ o .bottom) ⊎ ((r : Rule G) × Among r P × (r .grade ≡ conflict o w P))
-    unfolding objection
     conflict-held =
         let a = conflict-least .attained 0 (pow-pos w) refl in
         ⊎-elim (λ t. held-at (a .0) (conflict o w P) t (a .3))
-        (λ n. held-at 0 (conflict o w P) empty-founded (low (sym (a .3) ∙ cond-false (founded w (reduct (a .0) P) (a .0)) (worst o (a .0) (reduct (a .0) P)) (o .top) n)))
+        (λ n. held-at 0 (conflict o w P) empty-founded (low (sym (a .3) ∙ objection-unfounded o w (reduct (a .0) P) (a .0) n)))
         (cases-bool (founded w (reduct (a .0) P) (a .0)))
       where
         -- where the conflict is the top, so is the objection to the empty set

@@ -9,6 +9,7 @@ pub mod Derive
 pub mod Objections
 pub mod Stable
 pub mod Alike
+pub mod Plain
 pub mod Founded
 pub mod Listing
 pub mod Least

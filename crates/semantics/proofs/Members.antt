@@ -1,18 +1,18 @@
 -- The atoms of a set, one after the other, from the lowest.
-use mathlib.Core.Path.{_≡_, refl, sym, ap, subst, _∙_}
-use mathlib.Core.Logic.{_⊎_, inl, inr, ⊎-elim}
-use mathlib.Core.Bool.{Bool, true, false, not, _&&_}
-use Prim.Native.Nat.{ℕ, zero, suc, _+_, _-_, _*_, _/_, _%_, _^_, _≤_, _<_}
+use mathlib.Core.Path.{_≡_, refl, sym, ap, _∙_}
+use mathlib.Core.Logic.{⊎-elim}
+use mathlib.Core.Bool.{not, _&&_, and-true, and-false}
+use Prim.Native.Nat.{ℕ, zero, suc, _/_, _%_, _^_, _<_}
 use native.Mathlib.Nat.{pow-suc}
 use native.Mathlib.Omega.{arith}
 use lib.Bits.{bitAnd}
 use lib.Count.{trailingZeros, under}
 use lib.Dec.{eqb}
-use lib.Pow.{pow-pos, pow-lt}
+use lib.Pow.{pow-lt}
 use Rattle.std.specs.Options.{Cases}
 use Rattle.std.specs.declared.option.Option.{Option}
 use Rattle.std.specs.declared.option.Option.the-variants.{Some, None}
-use Rattle.std.proofs.shelf.Tests.{cases-lt, cases-bool, cases-eq, eq-eqb, ne-eqb}
+use Rattle.std.proofs.shelf.Tests.{cases-lt, eq-eqb, ne-eqb, and-left}
 use Rattle.semantics.specs.Sets.{has, others, In, Out, Lowest}
 use Rattle.semantics.proofs.Sets.{has-low, has-next, has-and, has-one, has-others, has-past, agree-lt}
 
@@ -58,17 +58,13 @@ trailing-low w A n l = trailing-found w A n l .low
 pub trailing-lowest : (w A : ℕ) → (A ≡ 0 → ⊥) → A < 2 ^ w → Lowest (trailingZeros w A) A
 trailing-lowest w A n l = trailing-found w A n l .lowest
 
-and-none : (b c : Bool) → b ≡ false → (b && c) ≡ false
-and-none true c e = absurd (mathlib.Core.Bool.true≢false e)
-and-none false c e = refl
-
 -- the set without one atom
 pub has-without : (w A k x : ℕ) → A < 2 ^ w → k < w → has (bitAnd A (others w (2 ^ k))) x ≡ (has A x && not (eqb x k))
 has-without w A k x l m =
     has-and A (others w (2 ^ k)) x
     ∙ ⊎-elim
     (λ h. ap (λ t. has A x && t) (has-others w (2 ^ k) x h (pow-lt m) ∙ ap not (has-one k x)))
-    (λ h. and-none (has A x) _ (has-past w A x l h) ∙ sym (and-none (has A x) _ (has-past w A x l h)))
+    (λ h. and-left (has A x) _ (has-past w A x l h) ∙ sym (and-left (has A x) _ (has-past w A x l h)))
     (cases-lt x w)
 
 -- a clause on an Option, made weaker
@@ -82,11 +78,3 @@ without-less A B x i is = agree-lt x B A
     (λ y l. is y ∙ ap (λ t. has A y && not t) (ne-eqb y x (λ e. omega arith)) ∙ and-true (has A y))
     (is x ∙ ap (λ t. has A x && not t) (eq-eqb x x refl) ∙ and-false (has A x))
     i
-  where
-    and-true : (b : Bool) → (b && true) ≡ b
-    and-true true = refl
-    and-true false = refl
-
-    and-false : (b : Bool) → (b && false) ≡ false
-    and-false true = refl
-    and-false false = refl

@@ -1,6 +1,6 @@
 -- Objections, necessity and conflict, seen through a cut.
 use mathlib.Core.Path.{_≡_, refl, sym, ap, _∙_, subst}
-use mathlib.Core.Bool.{Bool, true, false, not, cond, true≢false}
+use mathlib.Core.Bool.{Bool, true, false, not, true≢false}
 use mathlib.Core.Logic.{⊎-elim}
 use mathlib.Core.List.{List}
 use Prim.Native.Nat.{ℕ, zero, suc, _<_, _^_}
@@ -9,7 +9,7 @@ use Rattle.scale.specs.Laws.{Order, above}
 use Rattle.semantics.specs.Sets.{has, within, collect, In}
 use Rattle.semantics.specs.Rules.{Rule, Among, reduct, applicable, breaks, worst, derived, steps, consequences, support, reading, stable, founded, objection, leastAmong, necessity, conflict}
 use Rattle.semantics.specs.Statements.{Fits, Graded}
-use Rattle.semantics.proofs.Sets.{has-below, same-set, same-truth, within-has, within-from, collect-below, collect-has, has-none}
+use Rattle.semantics.proofs.Sets.{false-from, has-below, same-set, same-truth, within-has, within-from, collect-below, collect-has}
 use Rattle.semantics.proofs.Cuts.{Cut, above-cut, bot-of, same-by-cuts}
 use Rattle.semantics.proofs.Bests.{least-in, least-out, least-miss, greatest-in, greatest-out}
 use Rattle.semantics.proofs.Stages.{Fires, step-in, step-out, within as no-further, closed}
@@ -24,6 +24,14 @@ module _ {G : Type 0} (o : Order G) (w : ℕ) where
   pub support-below : (c : ℕ → G) → support o w c < 2 ^ w
   unfolding support
   support-below c = collect-below w (λ y. above o (c y))
+
+  pub objection-founded : (P : List (Rule G)) (A : ℕ) → founded w P A ≡ true → objection o w P A ≡ worst o A P
+  unfolding objection
+  objection-founded P A t = cond-true (founded w P A) (worst o A P) (o .top) t
+
+  pub objection-unfounded : (P : List (Rule G)) (A : ℕ) → founded w P A ≡ false → objection o w P A ≡ o .top
+  unfolding objection
+  objection-unfounded P A t = cond-false (founded w P A) (worst o A P) (o .top) t
 
   pub stable-is-below : (P : List (Rule G)) (A : ℕ) → stable o w P A ≡ true → A < 2 ^ w
   unfolding stable
@@ -43,7 +51,7 @@ module _ {G : Type 0} (o : Order G) (w : ℕ) (P : List (Rule G)) (fits : Fits w
   -- and, where no rule has the bottom grade, the other way round
   pub derived-steps : Graded o P → (n x : ℕ) → In x (derived P n) → above o (steps o w P n x) ≡ true
   unfolding steps
-  derived-steps graded zero x t = absurd (true≢false (sym t ∙ (ap (λ D. has D x) (derived-none P) ∙ has-none x)))
+  derived-steps graded zero x t = derived-none P x t
   derived-steps graded (suc n) x t =
       let a = derived-out P n x t in
       step-in o w (above o) (above-cut o) P (steps o w P n) x
@@ -80,7 +88,7 @@ module _ {G : Type 0} (o : Order G) (w : ℕ) (P : List (Rule G)) (fits : Fits w
     -- they break no rule of the cut
     pub model-breaks-none : h (worst o model P) ≡ false
     unfolding worst breaks
-    model-breaks-none = ⊎-elim (λ t. absurd (clash t)) (λ e. e) (cases-bool (h (worst o model P)))
+    model-breaks-none = false-from (h (worst o model P)) clash
       where
         clash : h (worst o model P) ≡ true → ⊥
         clash t =
@@ -111,17 +119,16 @@ module _ {G : Type 0} (o : Order G) (w : ℕ) (P : List (Rule G)) (fits : Fits w
         steps-derived o w (applicable A P) (applicable-fits w A P fits) h cut w x (model-derived w x (sym (model-has x l) ∙ t))
 
     pub model-objection : h (objection o w P model) ≡ false
-    unfolding objection
-    model-objection = let A = model in ap h (cond-true (founded w P A) (worst o A P) (o .top) model-founded) ∙ model-breaks-none
+    model-objection = ap h (objection-founded o w P model model-founded) ∙ model-breaks-none
 
     -- the cut holds the necessity of an atom if it holds its grade
     pub necessity-up : (x : ℕ) → h (consequences o w P x) ≡ true → h (necessity o w P x) ≡ true
-    unfolding necessity leastAmong objection consequences
+    unfolding necessity leastAmong consequences
     necessity-up x t = least-in o h cut (λ A. not (has A x)) (objection o w P) (2 ^ w) λ A l lacks.
         ⊎-elim (λ (e : founded w P A ≡ true).
-        ap h (cond-true (founded w P A) (worst o A P) (o .top) e) ∙
+        ap h (objection-founded o w P A e) ∙
         ⊎-elim (λ (u : h (worst o A P) ≡ true). u) (λ u. absurd (true≢false (sym (swallows A u w x t) ∙ not-true (has A x) lacks))) (cases-bool (h (worst o A P))))
-        (λ e. ap h (cond-false (founded w P A) (worst o A P) (o .top) e) ∙ cut .holds-top)
+        (λ e. ap h (objection-unfounded o w P A e) ∙ cut .holds-top)
         (cases-bool (founded w P A))
 
     pub necessity-down : (x : ℕ) → x < w → h (necessity o w P x) ≡ true → h (consequences o w P x) ≡ true
@@ -144,25 +151,24 @@ module _ {G : Type 0} (o : Order G) (w : ℕ) (P : List (Rule G)) (fits : Fits w
 
   -- nothing is held against A where it is founded and breaks no rule
   pub none-opposes : (A : ℕ) → founded w P A ≡ true → ((r : Rule G) → Among r P → breaks A r ≡ false) → objection o w P A ≡ o .bottom
-  unfolding objection worst
-  none-opposes A t f = cond-true (founded w P A) (worst o A P) (o .top) t ∙ bot-of o (worst o A P) (⊎-elim (λ u. absurd (clash u)) (λ u. u) (cases-bool (above o (worst o A P))))
+  unfolding worst
+  none-opposes A t f = objection-founded o w P A t ∙ bot-of o (worst o A P) (false-from (above o (worst o A P)) clash)
     where
       clash : above o (worst o A P) ≡ true → ⊥
       clash u = let a = greatest-out o (above o) (above-cut o) (breaks A) (λ s. s .grade) P u in true≢false (sym (a .2) ∙ f (a .0) (a .1))
 
   pub unopposed-founded : (A : ℕ) → objection o w P A ≡ o .bottom → (founded w P A ≡ true) × (above o (worst o A P) ≡ false)
-  unfolding objection
-  unopposed-founded A e = go (founded w P A) refl e
-    where
-      go : (b : Bool) → founded w P A ≡ b → cond b (worst o A P) (o .top) ≡ o .bottom → (founded w P A ≡ true) × (above o (worst o A P) ≡ false)
-      go true d u = (d, ap (above o) u ∙ above-cut o .out)
-      go false d u = absurd (o .apart (sym u))
+  unopposed-founded A e =
+      ⊎-elim
+      (λ t. (t, ap (above o) (sym (objection-founded o w P A t) ∙ e) ∙ above-cut o .out))
+      (λ n. absurd (o .apart (sym e ∙ objection-unfounded o w P A n)))
+      (cases-bool (founded w P A))
 
   pub unopposed-breaks-none : Graded o P → (A : ℕ) → objection o w P A ≡ o .bottom → (r : Rule G) → Among r P → breaks A r ≡ false
   unfolding worst
   unopposed-breaks-none graded A e r i =
-      ⊎-elim (λ (t : breaks A r ≡ true). absurd (true≢false (sym (greatest-in o (above o) (above-cut o) (breaks A) (λ s. s .grade) P r i t (graded r i)) ∙ unopposed-founded A e .1)))
-      (λ n. n) (cases-bool (breaks A r))
+      false-from (breaks A r) λ t.
+      true≢false (sym (greatest-in o (above o) (above-cut o) (breaks A) (λ s. s .grade) P r i t (graded r i)) ∙ unopposed-founded A e .1)
 
   pub unopposed-is-model : Graded o P → (A : ℕ) → A < 2 ^ w → objection o w P A ≡ o .bottom → A ≡ support o w (consequences o w P)
   unfolding consequences
@@ -196,7 +202,7 @@ module _ {G : Type 0} (o : Order G) (w : ℕ) (P : List (Rule G)) (fits : Fits w
 
   pub stable-frees : (A : ℕ) → stable o w P A ≡ true → conflict o w P ≡ o .bottom
   unfolding conflict leastAmong
-  stable-frees A t = bot-of o (conflict o w P) (⊎-elim (λ u. absurd (clash u)) (λ u. u) (cases-bool (above o (conflict o w P))))
+  stable-frees A t = bot-of o (conflict o w P) (false-from (above o (conflict o w P)) clash)
     where
       clash : above o (conflict o w P) ≡ true → ⊥
       clash u =

@@ -2,14 +2,14 @@
 use mathlib.Core.Path.{_≡_, refl, sym, ap, subst, _∙_}
 use mathlib.Core.Logic.{_⊎_, inl, inr, ⊎-elim}
 use mathlib.Core.Bool.{Bool, true, false, not, cond, _&&_, _||_}
-use Prim.Native.Nat.{ℕ, zero, suc, _+_, _-_, _*_, _/_, _%_, _^_, _≤_, _<_}
+use Prim.Native.Nat.{ℕ, zero, suc, _+_, _*_, _/_, _%_, _^_, _≤_, _<_}
 use native.Mathlib.Nat.{pow-suc}
 use native.Mathlib.Omega.{arith}
 use lib.Dec.{eqb, eqb·suc-zero, eqb·suc-suc}
 use lib.Bits.{bitAnd, bitOr, and-step, or-step, and-le-r}
 use lib.Pow.{pow-pos}
 use Rattle.std.proofs.shelf.Ways.{tells, same-from-decides}
-use Rattle.std.proofs.shelf.Tests.{cases-lt, cases-bool, both-ways, or-cases, or-parts, or-left, or-right, eqb-true, eq-eqb, ne-eqb}
+use Rattle.std.proofs.shelf.Tests.{cases-lt, cases-bool, both-ways, and-parts, and-from, or-cases, or-parts, or-left, or-right, eqb-true, eq-eqb, ne-eqb}
 use Rattle.std.specs.Orderings.{Decides}
 use Rattle.semantics.specs.Sets.{has, within, disjoint, adding, others, collect, In, Out, Sub, Apart}
 
@@ -91,8 +91,16 @@ same-truth true b f g = sym (f refl)
 same-truth false true f g = g refl
 same-truth false false f g = refl
 
+-- what is never true is false
+pub false-from : (b : Bool) → (b ≡ true → ⊥) → b ≡ false
+false-from b f = ⊎-elim (λ t. absurd (f t)) (λ e. e) (cases-bool b)
+
 pub not-both : {X : Type 0} (x A : ℕ) → In x A → Out x A → X
 not-both x A i o = absurd (both-ways (has A x) o i)
+
+-- nothing is in the empty set
+pub none-in : {X : Type 0} (x : ℕ) → In x 0 → X
+none-in x i = not-both x 0 i (has-none x)
 
 pub out-from : (x A : ℕ) → (In x A → Out x A) → Out x A
 out-from x A f = ⊎-elim f (λ o. o) (cases-bool (has A x))
@@ -103,7 +111,7 @@ and-sub A B e x h =
     let n = ap (λ m. has m x) e in
     grind arith
 
-sub-and-at : (a b : Bool) → (a ≡ true → b ≡ true) → (a && b) ≡ a
+pub sub-and-at : (a b : Bool) → (a ≡ true → b ≡ true) → (a && b) ≡ a
 sub-and-at true b h = h refl
 sub-and-at false b h = refl
 
@@ -133,6 +141,10 @@ and-apart A B e x h =
 pub apart-sym : (A B : ℕ) → Apart A B → Apart B A
 apart-sym A B h x i = out-from x A (λ j. not-both x B i (h x j))
 
+-- what is apart from a set is apart from a part of it
+pub apart-sub : (A B C : ℕ) → Sub B C → Apart A C → Apart A B
+apart-sub A B C s d x i = out-from x B (λ j. not-both x C (s x j) (d x i))
+
 -- ---- one atom
 
 pub has-one : (k x : ℕ) → has (2 ^ k) x ≡ eqb x k
@@ -160,7 +172,13 @@ adding-in A k = has-adding A k k ∙ or-right (has A k) (eqb k k) (eq-eqb k k re
 pub adding-keeps : (A k : ℕ) → Sub A (adding A k)
 adding-keeps A k x i = has-adding A k x ∙ or-left (has A x) (eqb x k) i
 
--- ---- unions and complements
+-- ---- unions, meets and complements
+
+pub in-and : (A B x : ℕ) → In x (bitAnd A B) → In x A × In x B
+in-and A B x i = and-parts (has A x) (has B x) (sym (has-and A B x) ∙ i)
+
+pub and-in : (A B x : ℕ) → In x A → In x B → In x (bitAnd A B)
+and-in A B x i j = has-and A B x ∙ and-from (has A x) (has B x) i j
 
 pub in-or : (A B x : ℕ) → In x (bitOr A B) → In x A ⊎ In x B
 in-or A B x h = or-cases (has A x) (has B x) (sym (has-or A B x) ∙ h)

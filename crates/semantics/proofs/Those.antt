@@ -2,12 +2,11 @@
 use mathlib.Core.Path.{_≡_, refl, sym, ap, _∙_, subst}
 use mathlib.Core.Bool.{Bool, true, false, not, cond, true≢false}
 use mathlib.Core.Logic.{_⊎_, inl, inr, ⊎-elim}
-use mathlib.Core.List.{List, [], _∷_, _++_}
-use Prim.Native.Nat.{ℕ, zero, suc, _<_}
+use mathlib.Core.List.{List, [], _∷_, _++_, append-nil}
 use native.Mathlib.Omega.{arith}
 use Rattle.std.specs.shelf.Lists.{All}
 use Rattle.std.specs.shelf.Sorted.{Shuffled}
-use Rattle.std.proofs.shelf.Sorted.{shuffled-refl, shuffled-sym, shuffled-cons, shuffled-swap, shuffled-trans, all-shuffled}
+use Rattle.std.proofs.shelf.Sorted.{shuffled-refl, shuffled-cons, shuffled-swap, shuffled-trans, all-shuffled}
 use Rattle.semantics.specs.Rules.{Among, those}
 
 module _ {X : Type 0} where
@@ -74,12 +73,8 @@ module _ {X : Type 0} where
       (shuffled-swap (x ∷ (y ∷ (ys ++ zs))) (y ∷ (x ∷ (ys ++ zs))) 0 1 (omega arith) (omega arith) refl)
       (shuffled-cons y (x ∷ (ys ++ zs)) (ys ++ (x ∷ zs)) (past x ys zs))
 
-  right-end : (xs : List X) → xs ++ [] ≡ xs
-  right-end [] = refl
-  right-end (x ∷ xs) = ap (λ l. x ∷ l) (right-end xs)
-
   turned : (xs ys : List X) → Shuffled (xs ++ ys) (ys ++ xs)
-  turned [] ys = subst (Shuffled ys) (sym (right-end ys)) (shuffled-refl ys)
+  turned [] ys = subst (Shuffled ys) (sym (append-nil ys)) (shuffled-refl ys)
   turned (x ∷ xs) ys = shuffled-trans (x ∷ (xs ++ ys)) (x ∷ (ys ++ xs)) (ys ++ (x ∷ xs)) (shuffled-cons x (xs ++ ys) (ys ++ xs) (turned xs ys)) (past x ys xs)
 
   under : (zs xs ys : List X) → Shuffled xs ys → Shuffled (zs ++ xs) (zs ++ ys)

@@ -1,4 +1,5 @@
 pub mod Sets
+pub mod Counting
 pub mod Rules
 pub mod Founded
 pub mod Plain

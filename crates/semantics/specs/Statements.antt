@@ -1,12 +1,13 @@
 -- The theorems. Each is named by the contract of a function of src/theory.rt, so that the crate fails without its proof.
 use mathlib.Core.Path.{_≡_}
 use mathlib.Core.Logic.{_↔_, _⊎_}
-use mathlib.Core.Bool.{Bool, true, false, not, cond}
+use mathlib.Core.Bool.{Bool, true, false, not}
 use mathlib.Core.List.{List, [], _∷_, map}
-use Prim.Native.Nat.{ℕ, zero, suc, _+_, _/_, _%_, _^_, _<_}
+use Prim.Native.Nat.{ℕ, _/_, _%_, _^_, _<_}
 use lib.Dec.{eqb}
 use Rattle.scale.specs.Laws.{Order, above}
 use Rattle.semantics.specs.Sets.{has, within, disjoint, adding, others, collect, In, Out, Sub, Apart}
+use Rattle.semantics.specs.Counting.{tally}
 use Rattle.semantics.specs.Rules.{Rule, Among, positive, reduct, breaks, founded, step, steps, consequences, support, reading, stable, stableSets, objection, necessity, conflict}
 use Rattle.semantics.specs.Founded.{Founded}
 use Rattle.semantics.specs.Plain.{truth}
@@ -24,10 +25,9 @@ abbrev pub Rising : List ℕ → Type 0
 Rising [] = Unit {0}
 Rising (x ∷ xs) = ((y : ℕ) → Among y xs → x < y) × Rising xs
 
--- how many atoms below n the set A has
+-- how many atoms below w the set A has
 unfoldable pub size : ℕ → ℕ → ℕ
-size zero A = 0
-size (suc n) A = size n A + cond (has A n) 1 0
+size w A = tally w (has A)
 
 -- the rule, held true
 abbrev pub asTrue : {G : Type 0} → Rule G → Rule Bool

@@ -1,9 +1,9 @@
-use mathlib.Core.Path.{_≡_, sym, subst, _∙_}
+use mathlib.Core.Path.{_∙_}
 use native.Mathlib.Omega.{arith}
-use Prim.Native.Nat.{_+_, _<_}
+use Prim.Native.Nat.{_<_}
 use lib.ListN.{length}
 use Rattle.std.proofs.shelf.Ways.{not-from-decides}
-use Rattle.grading.proofs.Worst.{Worst, worst-none, worst-more, worst-past, worst-all}
+use Rattle.grading.proofs.Worst.{worst-none, worst-more, worst-past, worst-all}
 use Rattle.grading.proofs.objection.worst.Needs as need
 use Rattle.grading.proofs.objection.worst.Needs.{then-is-broken, else-is-broken}
 

@@ -1,5 +1,4 @@
 use borrow.Author.Needs.{needs}
-use mathlib.Core.Path.{_≡_, sym, _∙_}
 use native.Mathlib.Omega.{arith}
 use Rattle.grading.proofs.Laying.{over-short, over-long}
 use Rattle.grading.proofs.rows.lay_over.Needs as need

@@ -1,6 +1,7 @@
 use Rattle.std.proofs.shelf.Lists.{take-all}
 use Rattle.std.proofs.shelf.Ways.{not-from-decides}
-use Rattle.search.proofs.Objected.{worst-kept, worst-more, taken-more}
+use Rattle.search.proofs.Objected.{worst-kept, worst-more}
+use Rattle.search.proofs.Passes.{taken-more}
 use Rattle.search.proofs.objection.broken_rank.Needs as need
 use Rattle.search.proofs.objection.broken_rank.Needs.{then-is-broken, else-is-broken}
 

@@ -1,5 +1,4 @@
-use mathlib.Core.Path.{_≡_, refl}
-use Prim.Native.Nat.{ℕ, _<_}
+use Prim.Native.Nat.{_<_}
 use Rattle.semantics.specs.Sets.{width, others}
 use Rattle.std.proofs.shelf.Bits.{one-shl}
 use Rattle.semantics.proofs.Members.{has-without}
