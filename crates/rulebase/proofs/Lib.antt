@@ -1,0 +1,16 @@
+pub mod Places
+pub mod Setting
+pub mod Replies
+pub mod Entering
+pub mod Staying
+pub mod Cuts
+pub mod Taken
+pub mod Machines
+pub mod AsMachine
+pub mod Copied
+pub mod Upcoming
+pub mod ReadOut
+pub mod Fetches
+pub mod Conflicts
+pub mod InFront
+pub mod RunLoop

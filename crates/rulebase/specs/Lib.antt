@@ -1,0 +1,9 @@
+pub mod Reference
+pub mod Tables
+pub mod Calls
+pub mod Entries
+pub mod Runs
+pub mod Lists
+pub mod Laws
+pub mod Held
+pub mod Ahead
