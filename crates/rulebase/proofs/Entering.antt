@@ -1,15 +1,10 @@
 -- The questions of an entry and of a striking.
-use mathlib.Core.Path.{_≡_, refl, sym, ap, ap₂, _∙_}
-use mathlib.Core.Bool.{Bool, true, false, not, cond}
-use mathlib.Core.List.{List}
+use mathlib.Core.Path.{_≡_, _∙_}
+use mathlib.Core.Bool.{true, false}
 use Prim.Native.Nat.{ℕ, _<_, _≤_}
-use native.Mathlib.Omega.{arith}
-use lib.Dec.{ltb}
 use lib.ListN.{length}
 use Rattle.std.proofs.shelf.Tests.{lt-ltb, le-ltb, cond-true, cond-false}
-use Rattle.std.specs.declared.option.Option.{Option}
 use Rattle.scale.specs.Laws.{Order, above}
-use Rattle.semantics.specs.Rules.{Rule}
 use Rattle.rulebase.specs.declared.call.Call.the-variants.{Enter, Strike}
 use Rattle.rulebase.specs.Reference.{State, at, isEmpty, refusal}
 

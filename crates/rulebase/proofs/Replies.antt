@@ -6,7 +6,7 @@ use lib.Dec.{eqb}
 use Rattle.std.proofs.shelf.Tests.{cond-false}
 use Rattle.scale.specs.Laws.{Order}
 use Rattle.rulebase.specs.declared.call.Call.{Call}
-use Rattle.rulebase.specs.Reference.{State, Reply, refused, refusal, answer, acted, reply, next}
+use Rattle.rulebase.specs.Reference.{State, refused, refusal, answer, acted, reply, next}
 
 module _ {G : Type 0} (o : Order G) (w : ℕ) (st : State G) (c : Call G) where
   module _ (n : ℕ) (e : refusal o w st c ≡ n) (no-zero : eqb n 0 ≡ false) where

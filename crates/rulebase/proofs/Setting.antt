@@ -1,13 +1,13 @@
 -- What the places hold, place by place, and after a write at one of them.
-use mathlib.Core.Path.{_≡_, refl, sym, ap, ap₂, subst, _∙_}
+use mathlib.Core.Path.{_≡_, refl, sym, ap, _∙_}
 use mathlib.Core.Bool.{Bool, true, false, not, cond, _&&_}
 use mathlib.Core.List.{List, [], _∷_, _++_, append-assoc}
-use Prim.Native.Nat.{ℕ, zero, suc, _+_, _<_, _≤_, min}
+use Prim.Native.Nat.{ℕ, _+_, _<_, _≤_}
 use native.Mathlib.Omega.{arith}
-use lib.Dec.{eqb, ltb}
-use lib.ListN.{length, getD, set, take, drop, replicate, length-take, length-replicate, length-append, length-drop, length-set}
+use lib.Dec.{ltb}
+use lib.ListN.{length, getD, set, drop, replicate, length-replicate, length-append, length-drop}
 use Rattle.std.proofs.shelf.Lists.{drop-more, set-at, replicate-more, getD-append-left, getD-replicate, getD-past, ext-getD}
-use Rattle.std.proofs.shelf.Tests.{lt-ltb, le-ltb, cond-true, cond-false, and-from}
+use Rattle.std.proofs.shelf.Tests.{lt-ltb, cond-true, cond-false, and-from}
 use Rattle.std.specs.declared.option.Option.{Option}
 use Rattle.std.specs.declared.option.Option.the-variants.{Some, None}
 use Rattle.scale.specs.Laws.{Scaled, above}
@@ -17,7 +17,7 @@ use Rattle.semantics.specs.Plain.{gradeIn}
 use Rattle.rulebase.specs.declared.rule.Rule.{Rule as Record}
 use Rattle.rulebase.specs.declared.cursor.Cursor.the-variants as cursor
 use Rattle.rulebase.specs.Calls.{markedRecord}
-use Rattle.rulebase.specs.Reference.{State, stale, at, isEmpty, opened}
+use Rattle.rulebase.specs.Reference.{stale, at, isEmpty, opened}
 use Rattle.rulebase.specs.Tables.{countOf, holds, holdsAt, placeOf, placesOf, emptyRecord, recordOf, rowFor, stateOf}
 use Rattle.rulebase.proofs.Places.{length-places, getD-places, set-places}
 

@@ -1,17 +1,15 @@
 -- What a change at one place leaves as it was.
 use mathlib.Core.Path.{_≡_, refl, sym, ap, ap₂, subst, _∙_}
-use mathlib.Core.Bool.{true}
 use mathlib.Core.List.{List, [], _∷_, map}
-use Prim.Native.Nat.{ℕ, zero, suc, _<_, _≤_, min}
+use Prim.Native.Nat.{ℕ, zero, suc, _<_, min}
 use native.Mathlib.Omega.{arith}
-use lib.ListN.{length, set, take, drop, length-set}
+use lib.ListN.{set, take, drop, length-set}
 use Rattle.std.proofs.shelf.Lists.{map-set}
 use Rattle.std.specs.declared.option.Option.{Option}
-use Rattle.std.specs.declared.option.Option.the-variants.{Some, None}
 use Rattle.scale.specs.Laws.{Scaled}
 use Rattle.semantics.specs.Rules.{Rule}
 use Rattle.rulebase.specs.declared.rule.Rule.{Rule as Record}
-use Rattle.rulebase.specs.Tables.{countOf, placesOf, placeOf, recordOf, rowFor, Exact}
+use Rattle.rulebase.specs.Tables.{countOf, placesOf, placeOf, recordOf, rowFor}
 use Rattle.rulebase.specs.Runs.{Stays}
 use Rattle.rulebase.proofs.Places.{take-of-set, set-places}
 

@@ -1,5 +1,4 @@
 -- The reference that the rule base is held to. It keeps a rule or none for each place, and tries all sets.
-use mathlib.Core.Path.{_≡_}
 use mathlib.Core.Bool.{Bool, true, false, cond}
 use mathlib.Core.List.{List, [], _∷_, map}
 use Prim.Native.Nat.{ℕ, zero, suc, _+_}

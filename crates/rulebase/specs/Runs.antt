@@ -1,6 +1,6 @@
 -- Runs of calls.
 use mathlib.Core.Path.{_≡_}
-use mathlib.Core.List.{List, [], _∷_, map}
+use mathlib.Core.List.{List, map}
 use Prim.Native.Nat.{ℕ, min}
 use lib.ListN.{length, take, drop}
 use Rattle.scale.specs.Laws.{Scaled}

@@ -1,4 +1,4 @@
-use mathlib.Core.Path.{_≡_, sym, ap, _∙_}
+use mathlib.Core.Path.{_≡_, ap, _∙_}
 use Rattle.semantics.specs.Sets.{width}
 use Rattle.semantics.specs.Rules.{conflict}
 use Rattle.rulebase.specs.Calls.{rulesIn, rowsIn, stateIn}

@@ -10,7 +10,6 @@ use Rattle.rulebase.specs.declared.call.Call.the-variants.{Enter}
 use Rattle.rulebase.specs.declared.cursor.Cursor.the-variants.{Stale}
 use Rattle.rulebase.proofs.Places.{length-places}
 use Rattle.rulebase.proofs.Setting.{empty-at, state-entered, record-held, row-held}
-use Rattle.rulebase.specs.Runs.{Stays}
 use Rattle.rulebase.proofs.Staying.{stays-same, stays-set, stays-as}
 use Rattle.rulebase.proofs.Replies.{reply-refused, next-refused, kept-refused, reply-accepted, next-accepted, new-accepted}
 use Rattle.rulebase.proofs.Entering.{enter-out, enter-taken, enter-head, enter-grade, enter-ok}

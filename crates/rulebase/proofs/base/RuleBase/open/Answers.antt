@@ -1,11 +1,8 @@
-use mathlib.Core.Path.{_≡_, refl, sym, ap, ap₂, _∙_}
-use mathlib.Core.List.{List, _++_}
-use Prim.Native.Nat.{ℕ}
+use mathlib.Core.Path.{_≡_, refl, ap, ap₂, _∙_}
+use mathlib.Core.List.{_++_}
 use native.Mathlib.Omega.{arith}
 use lib.ListN.{drop, replicate}
-use Rattle.rulebase.specs.Reference.{State, stale}
-use Rattle.rulebase.specs.Tables.{countOf, emptyRecord, placesOf, stateOf}
-use Rattle.rulebase.specs.declared.rule.Rule.{Rule}
+use Rattle.rulebase.specs.Tables.{countOf, emptyRecord, stateOf}
 use Rattle.rulebase.specs.declared.cursor.Cursor.the-variants.{Stale}
 use Rattle.rulebase.proofs.Setting.{state-opened}
 use Rattle.rulebase.proofs.base.RuleBase.open.Needs as need

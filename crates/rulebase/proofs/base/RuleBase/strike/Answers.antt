@@ -1,8 +1,8 @@
-use mathlib.Core.Path.{_≡_, refl, sym, ap, ap₂, _∙_}
+use mathlib.Core.Path.{refl, sym, ap, ap₂, _∙_}
 use mathlib.Core.Bool.{not}
 use Prim.Native.Nat.{_<_}
 use native.Mathlib.Omega.{arith}
-use lib.ListN.{length, set}
+use lib.ListN.{length}
 use Rattle.semantics.specs.Sets.{width}
 use Rattle.rulebase.specs.Calls.{rulesIn, rowsIn, stateIn}
 use Rattle.rulebase.specs.Tables.{countOf, placesOf, stateOf}
@@ -10,7 +10,6 @@ use Rattle.rulebase.specs.declared.call.Call.the-variants.{Strike}
 use Rattle.rulebase.specs.declared.cursor.Cursor.the-variants.{Stale}
 use Rattle.rulebase.proofs.Places.{length-places}
 use Rattle.rulebase.proofs.Setting.{empty-at, state-emptied}
-use Rattle.rulebase.specs.Runs.{Stays}
 use Rattle.rulebase.proofs.Staying.{stays-same, stays-set, stays-as}
 use Rattle.rulebase.proofs.Replies.{reply-refused, next-refused, kept-refused, reply-accepted, next-accepted, new-accepted}
 use Rattle.rulebase.proofs.Entering.{strike-out, strike-empty, strike-ok}
