@@ -7,10 +7,9 @@ ghost use mathlib.Core.Path.{_≡_};
 ghost use Rattle.rulebase.specs.Calls.{rulesIn, rowsIn, stateIn};
 ghost use Rattle.rulebase.specs.Laws.{Fetched-are-lowest-stable, No-more-iff-none-left, Held-are-lawful};
 ghost use Rattle.rulebase.specs.Laws.{Grades-are-necessities, Grades-are-readings, Conflict-is-least-objection, Bottom-conflict-iff-some-stable};
-ghost use Rattle.rulebase.specs.Lists.{performedOf, firstCalls, toldAll, keptAll};
-ghost use Rattle.rulebase.specs.Reference.{reply, next, replies, final, opened};
+ghost use Rattle.rulebase.specs.Lists.{performedOf, firstCalls, toldAll, keptAll, Runs-agree};
+ghost use Rattle.rulebase.specs.Reference.{reply, next, replies, final};
 ghost use Rattle.rulebase.specs.Runs.{told, keptRows, within, Stays};
-ghost use Rattle.rulebase.specs.Tables.{countOf, Exact};
 ghost use Rattle.semantics.specs.Sets.{width};
 use crate::base::RuleBase;
 use crate::call::Answer;
@@ -83,16 +82,7 @@ pub fn run_all<'a, S: Scale>(
     answers: &mut [Answer<S>],
     readings: &mut [S::Row],
 ) -> Ran<'a, S>
-    ensures count { λ r. ⌜ r .performed ≡ performedOf (now (calls .entry)) (now (answers .entry)) (now (readings .entry)) ⌝ }
-    ensures answers { λ r. ⌜ toldAll (S·Scale .scale) (take (r .performed) (now (answers .exit))) (now (readings .exit)) ≡ replies (S·Scale .scale .order) width (opened (S·Scale .scale .order) width (countOf (now (rules .entry)) (now (rows .entry)))) (firstCalls (r .performed) (now (calls .entry))) ⌝ }
-    ensures state { λ r. ⌜ stateIn (S·Scale .scale) (r .base) ≡ final (S·Scale .scale .order) width (opened (S·Scale .scale .order) width (countOf (now (rules .entry)) (now (rows .entry)))) (firstCalls (r .performed) (now (calls .entry))) ⌝ }
-    ensures rest { λ r. ⌜ drop (r .performed) (now (answers .exit)) ≡ drop (r .performed) (now (answers .entry)) ⌝ }
-    ensures readings { λ r. ⌜ now (readings .exit) ≡ keptAll (S·Scale .scale) (opened (S·Scale .scale .order) width (countOf (now (rules .entry)) (now (rows .entry)))) (firstCalls (r .performed) (now (calls .entry))) (take (r .performed) (now (answers .exit))) (now (readings .entry)) ++ drop (width * r .performed) (now (readings .entry)) ⌝ }
-    ensures exact { λ r. ⌜ Exact (S·Scale .scale) (rulesIn (r .base)) (rowsIn (r .base)) ⌝ }
-    ensures rules_length { λ r. ⌜ count (rulesIn (r .base)) ≡ count (now (rules .entry)) ⌝ }
-    ensures rows_length { λ r. ⌜ count (rowsIn (r .base)) ≡ count (now (rows .entry)) ⌝ }
-    ensures rules_rest { λ r. ⌜ drop (countOf (now (rules .entry)) (now (rows .entry))) (rulesIn (r .base)) ≡ drop (countOf (now (rules .entry)) (now (rows .entry))) (now (rules .entry)) ⌝ }
-    ensures rows_rest { λ r. ⌜ drop (countOf (now (rules .entry)) (now (rows .entry))) (rowsIn (r .base)) ≡ drop (countOf (now (rules .entry)) (now (rows .entry))) (now (rows .entry)) ⌝ }
+    ensures agrees { λ r. ⌜ Runs-agree (S·Scale .scale) (now (rules .entry)) (now (rows .entry)) (now (calls .entry)) (now (answers .entry)) (now (readings .entry)) (now (answers .exit)) (now (readings .exit)) (r .base) (r .performed) ⌝ }
     ensures fetched { λ _. ⌜ Fetched-are-lowest-stable S ⌝ }
     ensures no_more { λ _. ⌜ No-more-iff-none-left S ⌝ }
     ensures lawful { λ _. ⌜ Held-are-lawful S ⌝ }
