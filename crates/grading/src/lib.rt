@@ -1,4 +1,7 @@
 //! Grades of readings on any scale, over slices of rows.
+
+#![tactic(auto)]
+
 pub mod conflict;
 pub mod objection;
 pub mod reading;

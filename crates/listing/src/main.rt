@@ -1,4 +1,7 @@
 //! Lists the readings of a small sample of rules, step by step.
+
+#![tactic(auto)]
+
 use grading::conflict::conflict;
 use grading::reading::same;
 use grading::rows::grade_at;

@@ -1,4 +1,7 @@
 //! The rule base: a possibilistic normal logic program held in the caller's two tables, with a cursor over its stable models.
+
+#![tactic(auto)]
+
 pub mod base;
 pub mod call;
 pub mod changes;

@@ -1,4 +1,7 @@
 //! Scales of grades: the order of the grades, the rows that stand for them in tables, and their texts.
+
+#![tactic(auto)]
+
 pub mod numbered;
 pub mod pair;
 pub mod point;

@@ -1,4 +1,7 @@
 //! Performs the calls of a script from standard input on a rule base, and prints their answers.
+
+#![tactic(auto)]
+
 mod line;
 mod printing;
 mod script;

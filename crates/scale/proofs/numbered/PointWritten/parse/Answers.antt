@@ -3,4 +3,4 @@ use Rattle.scale.proofs.Parses.{parsed-is}
 use Rattle.scale.proofs.numbered.PointWritten.parse.Goals as goal
 
 pub returns : goal.returns
-returns c = parsed-is point_texts c.args.bytes.now c.point-numbered.result c.point-numbered.ensures
+returns c = parsed-is point_texts c.args.bytes.now c.point_numbered.result c.point_numbered.ensures

@@ -3,4 +3,4 @@ use Rattle.scale.proofs.Parses.{parsed-is}
 use Rattle.scale.proofs.spelled.WordWritten.parse.Goals as goal
 
 pub returns : goal.returns
-returns c = parsed-is word_texts c.args.bytes.now c.word-spelled.result c.word-spelled.ensures
+returns c = parsed-is word_texts c.args.bytes.now c.word_spelled.result c.word_spelled.ensures
