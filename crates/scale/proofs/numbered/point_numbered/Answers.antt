@@ -15,35 +15,35 @@ returns-in-49 c =
     let k = c.new-in-49.ensures in
     e ∙ sym (hundred c.new-in-49.result.value (omega arith) (omega arith))
 
-pub returns-in-default : goal.returns-in-default
-returns-in-default c = no_number c.args.bytes.now (search rules) (search rules) (search rules)
+pub returns-in_default : goal.returns-in_default
+returns-in_default c = no_number c.args.bytes.now (search rules) (search rules) (search rules)
 
-pub returns-in-default·2 : goal.returns-in-default·2
-returns-in-default·2 c = no_number c.args.bytes.now (search rules) (search rules) (search rules)
+pub returns-in_default-2 : goal.returns-in_default-2
+returns-in_default-2 c = no_number c.args.bytes.now (search rules) (search rules) (search rules)
 
-pub returns-in-default·3 : goal.returns-in-default·3
-returns-in-default·3 c = no_number c.args.bytes.now (search rules) (search rules) (search rules)
+pub returns-in_default-3 : goal.returns-in_default-3
+returns-in_default-3 c = no_number c.args.bytes.now (search rules) (search rules) (search rules)
 
-pub returns-in-default·4 : goal.returns-in-default·4
-returns-in-default·4 c = no_number c.args.bytes.now (search rules) (search rules) (search rules)
+pub returns-in_default-4 : goal.returns-in_default-4
+returns-in_default-4 c = no_number c.args.bytes.now (search rules) (search rules) (search rules)
 
-pub returns-in-default·5 : goal.returns-in-default·5
-returns-in-default·5 c = no_number c.args.bytes.now (search rules) (search rules) (search rules)
+pub returns-in_default-5 : goal.returns-in_default-5
+returns-in_default-5 c = no_number c.args.bytes.now (search rules) (search rules) (search rules)
 
-pub returns-in-default·6 : goal.returns-in-default·6
-returns-in-default·6 c = no_number c.args.bytes.now (search rules) (search rules) (search rules)
+pub returns-in_default-6 : goal.returns-in_default-6
+returns-in_default-6 c = no_number c.args.bytes.now (search rules) (search rules) (search rules)
 
-pub returns-in-default·7 : goal.returns-in-default·7
-returns-in-default·7 c = no_number c.args.bytes.now (search rules) (search rules) (search rules)
+pub returns-in_default-7 : goal.returns-in_default-7
+returns-in_default-7 c = no_number c.args.bytes.now (search rules) (search rules) (search rules)
 
-pub returns-in-default·8 : goal.returns-in-default·8
-returns-in-default·8 c = no_number c.args.bytes.now (search rules) (search rules) (search rules)
+pub returns-in_default-8 : goal.returns-in_default-8
+returns-in_default-8 c = no_number c.args.bytes.now (search rules) (search rules) (search rules)
 
-pub returns-in-default·9 : goal.returns-in-default·9
-returns-in-default·9 c = no_number c.args.bytes.now (search rules) (search rules) (search rules)
+pub returns-in_default-9 : goal.returns-in_default-9
+returns-in_default-9 c = no_number c.args.bytes.now (search rules) (search rules) (search rules)
 
-pub returns-in-default·10 : goal.returns-in-default·10
-returns-in-default·10 c = no_number c.args.bytes.now (search rules) (search rules) (search rules)
+pub returns-in_default-10 : goal.returns-in_default-10
+returns-in_default-10 c = no_number c.args.bytes.now (search rules) (search rules) (search rules)
 
-pub returns-in-default·11 : goal.returns-in-default·11
-returns-in-default·11 c = no_number c.args.bytes.now (search rules) (search rules) (search rules)
+pub returns-in_default-11 : goal.returns-in_default-11
+returns-in_default-11 c = no_number c.args.bytes.now (search rules) (search rules) (search rules)

@@ -4,14 +4,14 @@ use Rattle.search.proofs.Split.{decided-narrowed, decided-open, decided-absent, 
 use Rattle.search.proofs.least.+search.Goals as goal
 use Rattle.search.proofs.least.+search.Goals.{In-Some}
 
-pub returns-in-default : goal.returns-in-default
-returns-in-default t c =
-    let n = c.in-ok-b.ensures in
-    leaf _ (λ A a. a.below) _ _ _ _ _ (omega arith) (omega arith) c.requires n.narrows n.apart n.settled c.in-default.ensures
+pub returns-in_default : goal.returns-in_default
+returns-in_default t c =
+    let n = c.in_ok-b.ensures in
+    leaf _ (λ A a. a.below) _ _ _ _ _ (omega arith) (omega arith) c.requires n.narrows n.apart n.settled c.in_default.ensures
 
 -- the atom is open, and everything above it is decided
-fork : (t : ℕ) (c : In-Some t) → DecidedFrom (c.in-Some.atom.number + 1) c.in-ok-b.b.present c.in-ok-b.b.absent
-fork t c = decided-open _ _ _ _ (decided-narrowed _ _ _ _ _ _ c.requires c.in-ok-b.ensures.narrows) c.in-Some.ensures.2
+fork : (t : ℕ) (c : In-Some t) → DecidedFrom (c.in-Some.atom.number + 1) c.in_ok-b.b.present c.in_ok-b.b.absent
+fork t c = decided-open _ _ _ _ (decided-narrowed _ _ _ _ _ _ c.requires c.in_ok-b.ensures.narrows) c.in-Some.ensures.2
 
 pub search-requires : goal.search-requires
 search-requires t c =
@@ -29,11 +29,11 @@ search-requires-in-None t c =
 
 pub returns-in-Some-search : goal.returns-in-Some-search
 returns-in-Some-search t c =
-    found-absent _ (λ A a. a.below) _ _ _ _ _ c.in-ok-b.ensures.narrows (fork t (goal.at.returns-in-Some-search t c).In-Some) _
+    found-absent _ (λ A a. a.below) _ _ _ _ _ c.in_ok-b.ensures.narrows (fork t (goal.at.returns-in-Some-search t c).In-Some) _
     (rw c.with.ensures at c.in-Some-search.ensures)
 
 pub returns-in-None : goal.returns-in-None
 returns-in-None t c =
-    then-present _ (λ A a. a.below) _ _ _ _ _ c.in-ok-b.ensures.narrows (fork t (goal.at.returns-in-None t c).In-Some)
+    then-present _ (λ A a. a.below) _ _ _ _ _ c.in_ok-b.ensures.narrows (fork t (goal.at.returns-in-None t c).In-Some)
     (rw c.with.ensures at c.in-None.ensures) _
     (rw c.with-in-None.ensures at c.search-in-None.ensures)

@@ -8,6 +8,6 @@ pub returns : goal.returns
 returns c =
     let A = c.args.set in
     let small : count_trailing_zeros width A < width = trailing-low width A c.if-set-eq0.false c.ranges.set.fits in
-    option-weaker c.from-number.result _ _ _ _ c.from-number.ensures
+    option-weaker c.from_number.result _ _ _ _ c.from_number.ensures
     (λ far. absurd (omega arith))
     (λ atom is. subst (λ (x : ℕ). Lowest x A) (sym is) (trailing-lowest width A c.if-set-eq0.false c.ranges.set.fits))
