@@ -6,11 +6,11 @@ use Rattle.grading.specs.Ranks.{grades, rank_among, ranks_of}
 use Rattle.grading.proofs.Ranking.{rank-le, place_set, ranks-set, same-grades, same_place, ranks-at, ranks-from}
 use Rattle.grading.proofs.conflict.rank_all.Goals as goal
 
-pub invariant-of-rules : goal.invariant-of-rules
-invariant-of-rules g c =
+pub invariant_of-rules : goal.invariant_of-rules
+invariant_of-rules g c =
     let s = g.S.Scale.scale in
-    let few = rank-le s.order (grades s c.args.rows.now c.loop-i.rules) c.grade-at.result in
-    ((c.index-rules-i.result.low.0, omega (arith, few, length-map c.loop-i.rules (grade_of s c.args.rows.now), c.rank-of-rank.ensures, c.well-formed.0.1)), tt)
+    let few = rank-le s.order (grades s c.args.rows.now c.loop-i.rules) c.grade_at.result in
+    record { low = (c.index-rules-i.result.low.0, omega (arith, few, length-map c.loop-i.rules (grade_of s c.args.rows.now), c.rank_of-rank.ensures, c.well_formed.0.1)) }
 
 pub loop-i-init : goal.loop-i-init
 loop-i-init g c = (refl, λ k h. absurd (omega arith))
@@ -24,7 +24,7 @@ loop-i-preserved g c =
     let r = c.index-rules-i.result in
     let inside : i < length rules = omega arith in
     let kept = c.loop-i.invariant.0 in
-    let rank = c.rank-of-rank.ensures ∙ ap₂ (rank_among s.order) (same-grades s rows rules c.args.rules.now kept) c.grade-at.ensures
+    let rank = c.rank_of-rank.ensures ∙ ap₂ (rank_among s.order) (same-grades s rows rules c.args.rules.now kept) c.grade_at.ensures
     ∙ sym (ranks-at s rows c.args.rules.now i r (omega arith) (same_place rules c.args.rules.now kept i r inside c.index-rules-i.is)) in (
       place_set rules i r _ inside c.index-rules-i.is refl ∙ kept,
       ranks-set rules i r _ inside c.index-rules-i.is (λ k. get_or (ranks_of s rows c.args.rules.now) k 0) c.loop-i.invariant.1 rank,

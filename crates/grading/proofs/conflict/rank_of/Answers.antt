@@ -1,14 +1,14 @@
 use Rattle.std.proofs.Common.{◌≡◌, ℕ, ◌+◌, ◌<◌, length, sym, ap, ◌∙◌, arith}
 use Rattle.grading.proofs.Ranking.{rank-few, rank-none, rank-more, rank-past, rank-all}
 use Rattle.grading.proofs.conflict.rank_of.Goals as goal
-use Rattle.grading.proofs.conflict.rank_of.Goals.{then-not-at-most, else-not-at-most}
+use Rattle.grading.proofs.conflict.rank_of.Goals.{then-not-at_most, else-not-at_most}
 
 pub loop-rule-init : goal.loop-rule-init
 loop-rule-init g c = sym (rank-none g.S.Scale.scale c.args.rows.now c.args.rules.now c.args.grade)
 
-pub overflow-add-rank : goal.overflow-add-rank
-overflow-add-rank g c =
-    omega (arith, c.loop-rule.invariant, rank-few g.S.Scale.scale c.args.rows.now c.args.rules.now c.args.grade c.loop-rule.rule-index (omega arith), c.well-formed.0.1)
+pub overflow_add-rank : goal.overflow_add-rank
+overflow_add-rank g c =
+    omega (arith, c.loop-rule.invariant, rank-few g.S.Scale.scale c.args.rows.now c.args.rules.now c.args.grade c.loop-rule.rule-index (omega arith), c.well_formed.0.1)
 
 pub loop-rule-preserved : goal.loop-rule-preserved
 loop-rule-preserved g c =
@@ -16,10 +16,10 @@ loop-rule-preserved g c =
     let i = c.loop-rule.rule-index in
     let inside : i < length c.args.rules.now = omega arith in
     let r = c.rule-item.result in
-    let here = c.at-most.ensures ∙ ap (s.order.at_most c.args.grade) c.grade-at.ensures in
-    elim c.if-not-at-most.branch [
-      | then-not-at-most w ↦ w.rank-is ∙ ap (λ (n : ℕ). n + 1) c.loop-rule.invariant ∙ sym (rank-more s c.args.rows.now c.args.rules.now c.args.grade i r inside c.rule-item.is (sym here ∙ w.if-not-at-most.true))
-      | else-not-at-most w ↦ w.rank-is ∙ c.loop-rule.invariant ∙ sym (rank-past s c.args.rows.now c.args.rules.now c.args.grade i r inside c.rule-item.is (sym here ∙ w.if-not-at-most.false))
+    let here = c.at_most.ensures ∙ ap (s.order.at_most c.args.grade) c.grade_at.ensures in
+    elim c.if-not-at_most.branch [
+      | then-not-at_most w ↦ w.rank-is ∙ ap (λ (n : ℕ). n + 1) c.loop-rule.invariant ∙ sym (rank-more s c.args.rows.now c.args.rules.now c.args.grade i r inside c.rule-item.is (sym here ∙ w.if-not-at_most.true))
+      | else-not-at_most w ↦ w.rank-is ∙ c.loop-rule.invariant ∙ sym (rank-past s c.args.rows.now c.args.rules.now c.args.grade i r inside c.rule-item.is (sym here ∙ w.if-not-at_most.false))
     ]
 
 pub returns : goal.returns

@@ -2,7 +2,7 @@ use Rattle.std.proofs.Common.{◌<◌, length, ◌∙◌, arith}
 use Rattle.std.proofs.lemmas.Bool.Decides.{not_from_Decides}
 use Rattle.grading.proofs.Worst.{worst-none, worst-more, worst-past, worst-all}
 use Rattle.grading.proofs.objection.worst.Goals as goal
-use Rattle.grading.proofs.objection.worst.Goals.{then-is-broken, else-is-broken}
+use Rattle.grading.proofs.objection.worst.Goals.{then-is_broken, else-is_broken}
 
 pub loop-rule-init : goal.loop-rule-init
 loop-rule-init g c = worst-none g.S.Scale.scale c.args.set c.args.rules.now c.args.rows.now _ c.bottom-grade.ensures
@@ -13,13 +13,13 @@ loop-rule-preserved g c =
     let i = c.loop-rule.rule-index in
     let inside : i < length c.args.rules.now = omega arith in
     let r = c.rule-item.result in
-    elim c.if-is-broken.branch [
-      | then-is-broken w ↦
+    elim c.if-is_broken.branch [
+      | then-is_broken w ↦
           w.grade-is ∙ worst-more s c.args.set c.args.rules.now c.args.rows.now i c.loop-rule.grade c.loop-rule.invariant r inside c.rule-item.is
-          (c.is-broken.ensures.0 w.if-is-broken.true) w.grade-at.result w.greater-of-grade.result w.grade-at.ensures w.greater-of-grade.ensures
-      | else-is-broken w ↦
+          (c.is_broken.ensures.0 w.if-is_broken.true) w.grade_at.result w.greater_of-grade.result w.grade_at.ensures w.greater_of-grade.ensures
+      | else-is_broken w ↦
           w.grade-is ∙ worst-past s c.args.set c.args.rules.now c.args.rows.now i c.loop-rule.grade c.loop-rule.invariant r inside c.rule-item.is
-          (not_from_Decides _ c.is-broken.ensures w.if-is-broken.false)
+          (not_from_Decides _ c.is_broken.ensures w.if-is_broken.false)
     ]
 
 pub returns : goal.returns
