@@ -2,7 +2,7 @@ use Rattle.std.proofs.Common.{◌<◌, length, refl, arith}
 use Rattle.rulebase.specs.Tables.{most_places}
 use Rattle.rulebase.proofs.Copied.{copied_none, copied_more, copied-past, copied_all}
 use Rattle.rulebase.proofs.reading.read_out.Goals as goal
-use Rattle.rulebase.proofs.reading.read_out.Goals.{in-Some, in-default}
+use Rattle.rulebase.proofs.reading.read_out.Goals.{in-Some, in_default}
 
 pub loop-place-init : goal.loop-place-init
 loop-place-init g c = copied_none g.S.Scale.scale c.args.rules.now c.args.rows.now _ refl
@@ -14,9 +14,9 @@ loop-place-preserved g c =
     let l : i < length c.args.rules.now = omega arith in
     let m : i < length c.args.rows.now = omega arith in
     let b : i < most_places = omega arith in
-    elim c.match-plain-rule.branch [
+    elim c.match-plain_rule.branch [
       | in-Some w ↦ simp (w.count-is, w.out-is) (copied_more s c.args.rules.now c.args.rows.now i c.loop-place.count c.loop-place.out c.loop-place.invariant l m w.in-Some.rule b w.in-Some.ensures)
-      | in-default w ↦ simp (w.count-is, w.out-is) (copied-past s c.args.rules.now c.args.rows.now i c.loop-place.count c.loop-place.out c.loop-place.invariant l m w.in-default.ensures)
+      | in_default w ↦ simp (w.count-is, w.out-is) (copied-past s c.args.rules.now c.args.rows.now i c.loop-place.count c.loop-place.out c.loop-place.invariant l m w.in_default.ensures)
     ]
 
 pub returns : goal.returns

@@ -38,6 +38,6 @@ returns g c =
       graded = grades-readings _;
       conflicts = conflict-objection _;
       bottom = conflict-bottom _;
-      rules-name = e.rules-name ∙ o.rules-name;
-      rows-name = e.rows-name ∙ o.rows-name;
+      rules_name = e.rules_name ∙ o.rules_name;
+      rows_name = e.rows_name ∙ o.rows_name;
     }

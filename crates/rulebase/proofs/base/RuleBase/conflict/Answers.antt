@@ -15,9 +15,9 @@ returns g c =
     let s = g.S.Scale.scale in
     let b = c.args.self.now in
     let st = state_in s b in
-    let read = c.read-out-held.ensures in
-    let is : c.conflict-among.result ≡ conflict s.order width (held (places_of s (rules_in b) (rows_in b))) = c.conflict-among.ensures ∙ ap (conflict s.order width) read in
+    let read = c.read_out-held.ensures in
+    let is : c.conflict_among.result ≡ conflict s.order width (held (places_of s (rules_in b) (rows_in b))) = c.conflict_among.ensures ∙ ap (conflict s.order width) read in
     record {
       answer = conflict-reply s.order width st _ is;
-      bottom = conflict-bottom s.order (held st.places) _ is (places-fit s (rules_in b) (rows_in b) (listed c.read-out-held.result) read) (places-graded s (rules_in b) (rows_in b));
+      bottom = conflict-bottom s.order (held st.places) _ is (places-fit s (rules_in b) (rows_in b) (listed c.read_out-held.result) read) (places-graded s (rules_in b) (rows_in b));
     }

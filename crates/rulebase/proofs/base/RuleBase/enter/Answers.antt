@@ -26,13 +26,13 @@ returns-then-place-places g c =
       rules = sym (kept-refused s.order width st call 1 v refl _ _);
       rows = sym (kept-refused s.order width st call 1 v refl _ _);
       stays = stays_same s (rules_in b) (rows_in b);
-      rules-name = refl;
-      rows-name = refl;
+      rules_name = refl;
+      rows_name = refl;
     }
 
-pub returns-then-is-held : goal.returns-then-is-held
+pub returns-then-is_held : goal.returns-then-is_held
 unfolding state_of
-returns-then-is-held g c =
+returns-then-is_held g c =
     let s = g.S.Scale.scale in
     let b = c.args.self.now in
     let st = state_in s b in
@@ -41,20 +41,20 @@ returns-then-is-held g c =
     let inside : c.args.place < count_of (rules_in b) (rows_in b) = omega arith in
     let there : c.args.place < length (places_of s (rules_in b) (rows_in b)) = omega arith in
     let empty = empty-at s (rules_in b) (rows_in b) c.args.place inside in
-    let v = enter-taken s.order width st c.args.place c.args.head c.args.pos c.args.neg c.args.grade there (empty ∙ ap not (sym c.if-is-held.ensures)) in
+    let v = enter-taken s.order width st c.args.place c.args.head c.args.pos c.args.neg c.args.grade there (empty ∙ ap not (sym c.if-is_held.ensures)) in
     record {
       answer = sym (reply-refused s.order width st call 2 v refl);
       state = sym (next-refused s.order width st call 2 v refl);
       rules = sym (kept-refused s.order width st call 2 v refl _ _);
       rows = sym (kept-refused s.order width st call 2 v refl _ _);
       stays = stays_same s (rules_in b) (rows_in b);
-      rules-name = refl;
-      rows-name = refl;
+      rules_name = refl;
+      rows_name = refl;
     }
 
-pub returns-in-default : goal.returns-in-default
+pub returns-in_default : goal.returns-in_default
 unfolding state_of
-returns-in-default g c =
+returns-in_default g c =
     let s = g.S.Scale.scale in
     let b = c.args.self.now in
     let st = state_in s b in
@@ -63,20 +63,20 @@ returns-in-default g c =
     let inside : c.args.place < count_of (rules_in b) (rows_in b) = omega arith in
     let there : c.args.place < length (places_of s (rules_in b) (rows_in b)) = omega arith in
     let empty = empty-at s (rules_in b) (rows_in b) c.args.place inside in
-    let v = enter-head s.order width st c.args.place c.args.head c.args.pos c.args.neg c.args.grade there (empty ∙ ap not (sym c.if-is-held.ensures)) c.in-default.ensures in
+    let v = enter-head s.order width st c.args.place c.args.head c.args.pos c.args.neg c.args.grade there (empty ∙ ap not (sym c.if-is_held.ensures)) c.in_default.ensures in
     record {
       answer = sym (reply-refused s.order width st call 3 v refl);
       state = sym (next-refused s.order width st call 3 v refl);
       rules = sym (kept-refused s.order width st call 3 v refl _ _);
       rows = sym (kept-refused s.order width st call 3 v refl _ _);
       stays = stays_same s (rules_in b) (rows_in b);
-      rules-name = refl;
-      rows-name = refl;
+      rules_name = refl;
+      rows_name = refl;
     }
 
-pub returns-then-not-is-above-bottom : goal.returns-then-not-is-above-bottom
+pub returns-then-not-is_above_bottom : goal.returns-then-not-is_above_bottom
 unfolding state_of
-returns-then-not-is-above-bottom g c =
+returns-then-not-is_above_bottom g c =
     let s = g.S.Scale.scale in
     let b = c.args.self.now in
     let st = state_in s b in
@@ -86,15 +86,15 @@ returns-then-not-is-above-bottom g c =
     let there : c.args.place < length (places_of s (rules_in b) (rows_in b)) = omega arith in
     let empty = empty-at s (rules_in b) (rows_in b) c.args.place inside in
     let low : c.args.head < width = omega (arith, c.in-Some.ensures, c.in-Some.atom.ok) in
-    let v = enter-grade s.order width st c.args.place c.args.head c.args.pos c.args.neg c.args.grade there (empty ∙ ap not (sym c.if-is-held.ensures)) low (sym c.if-not-is-above-bottom.ensures) in
+    let v = enter-grade s.order width st c.args.place c.args.head c.args.pos c.args.neg c.args.grade there (empty ∙ ap not (sym c.if-is_held.ensures)) low (sym c.if-not-is_above_bottom.ensures) in
     record {
       answer = sym (reply-refused s.order width st call 4 v refl);
       state = sym (next-refused s.order width st call 4 v refl);
       rules = sym (kept-refused s.order width st call 4 v refl _ _);
       rows = sym (kept-refused s.order width st call 4 v refl _ _);
       stays = stays_same s (rules_in b) (rows_in b);
-      rules-name = refl;
-      rows-name = refl;
+      rules_name = refl;
+      rows_name = refl;
     }
 
 pub returns : goal.returns
@@ -109,8 +109,8 @@ returns g c =
     let there : c.args.place < length (places_of s (rules_in b) (rows_in b)) = omega arith in
     let empty = empty-at s (rules_in b) (rows_in b) c.args.place inside in
     let low : c.args.head < width = omega (arith, c.in-Some.ensures, c.in-Some.atom.ok) in
-    let high = sym c.if-not-is-above-bottom.ensures in
-    let v = enter-ok s.order width st c.args.place c.args.head c.args.pos c.args.neg c.args.grade there (empty ∙ ap not (sym c.if-is-held.ensures)) low high in
+    let high = sym c.if-not-is_above_bottom.ensures in
+    let v = enter-ok s.order width st c.args.place c.args.head c.args.pos c.args.neg c.args.grade there (empty ∙ ap not (sym c.if-is_held.ensures)) low high in
     let written : set (rules_in b) c.args.place _ ≡ set (rules_in b) c.args.place (marked_record c.args.head c.args.pos c.args.neg) = ap (λ (h : ℕ). set (rules_in b) c.args.place (marked_record h c.args.pos c.args.neg)) (c.number.ensures ∙ c.in-Some.ensures) in
     record {
       answer = sym (reply-accepted s.order width st call v);
@@ -123,6 +123,6 @@ returns g c =
       stays =
           stays-as s (rules_in b) (rows_in b) written c.put.ensures.rows
           (stays-set s (rules_in b) (rows_in b) c.args.place _ _ inside (record-held s c.args.head c.args.pos c.args.neg c.args.grade low high) (row-held s c.args.head c.args.pos c.args.neg c.args.grade low high));
-      rules-name = refl;
-      rows-name = c.put.ensures.rows-name;
+      rules_name = refl;
+      rows_name = c.put.ensures.rows_name;
     }

@@ -16,8 +16,8 @@ returns-in-Stale g c =
       rules = refl {a = b.rules.now};
       rows = refl {a = b.grades.rows.now};
       stays = stays_same s (rules_in b) (rows_in b);
-      rules-name = refl {a = b.rules.ghost_name};
-      rows-name = refl {a = b.grades.rows.ghost_name};
+      rules_name = refl {a = b.rules.ghost_name};
+      rows_name = refl {a = b.grades.rows.ghost_name};
     }
 
 pub returns-then-buffer-lt-ATOMS : goal.returns-then-buffer-lt-ATOMS
@@ -26,31 +26,31 @@ returns-then-buffer-lt-ATOMS g c =
     let b = c.args.self.now in
     let n = length c.args.buffer.now in
     record {
-      answer = sym (short-reply s b.rules.now b.grades.rows.now b.cursor n c.in-default.not-Stale c.if-buffer-lt-ATOMS.true);
-      state = sym (short-next s b.rules.now b.grades.rows.now b.cursor n c.in-default.not-Stale c.if-buffer-lt-ATOMS.true);
+      answer = sym (short-reply s b.rules.now b.grades.rows.now b.cursor n c.in_default.not-Stale c.if-buffer-lt-ATOMS.true);
+      state = sym (short-next s b.rules.now b.grades.rows.now b.cursor n c.in_default.not-Stale c.if-buffer-lt-ATOMS.true);
       buffer = refl {a = c.args.buffer.now};
       rules = refl {a = b.rules.now};
       rows = refl {a = b.grades.rows.now};
       stays = stays_same s (rules_in b) (rows_in b);
-      rules-name = refl {a = b.rules.ghost_name};
-      rows-name = refl {a = b.grades.rows.ghost_name};
+      rules_name = refl {a = b.rules.ghost_name};
+      rows_name = refl {a = b.grades.rows.ghost_name};
     }
 
-pub returns-in-default-read-next : goal.returns-in-default-read-next
-returns-in-default-read-next g c =
+pub returns-in_default-read_next : goal.returns-in_default-read_next
+returns-in_default-read_next g c =
     let s = g.S.Scale.scale in
     let b = c.args.self.now in
     let n = length c.args.buffer.now in
-    let h = c.in-default-read-next.ensures in
+    let h = c.in_default-read_next.ensures in
     record {
-      answer = fetch-reply s b.rules.now b.grades.rows.now b.cursor n c.in-default.not-Stale c.if-buffer-lt-ATOMS.false c.args.buffer.now c.read-next.new.buffer _ h;
-      state = fetch-next s b.rules.now b.grades.rows.now b.cursor n c.in-default.not-Stale c.if-buffer-lt-ATOMS.false c.args.buffer.now c.read-next.new.buffer _ h;
+      answer = fetch-reply s b.rules.now b.grades.rows.now b.cursor n c.in_default.not-Stale c.if-buffer-lt-ATOMS.false c.args.buffer.now c.read_next.new.buffer _ h;
+      state = fetch-next s b.rules.now b.grades.rows.now b.cursor n c.in_default.not-Stale c.if-buffer-lt-ATOMS.false c.args.buffer.now c.read_next.new.buffer _ h;
       buffer = h.rows;
       rules = refl {a = b.rules.now};
       rows = refl {a = b.grades.rows.now};
       stays = stays_same s (rules_in b) (rows_in b);
-      rules-name = refl {a = b.rules.ghost_name};
-      rows-name = refl {a = b.grades.rows.ghost_name};
+      rules_name = refl {a = b.rules.ghost_name};
+      rows_name = refl {a = b.grades.rows.ghost_name};
     }
 
 pub returns : goal.returns
@@ -60,12 +60,12 @@ returns g c =
     let n = length c.args.buffer.now in
     let h = c.in-Some.ensures in
     record {
-      answer = fetch-reply s b.rules.now b.grades.rows.now b.cursor n c.in-default.not-Stale c.if-buffer-lt-ATOMS.false c.args.buffer.now c.read-next.new.buffer _ h;
-      state = fetch-next s b.rules.now b.grades.rows.now b.cursor n c.in-default.not-Stale c.if-buffer-lt-ATOMS.false c.args.buffer.now c.read-next.new.buffer _ h;
+      answer = fetch-reply s b.rules.now b.grades.rows.now b.cursor n c.in_default.not-Stale c.if-buffer-lt-ATOMS.false c.args.buffer.now c.read_next.new.buffer _ h;
+      state = fetch-next s b.rules.now b.grades.rows.now b.cursor n c.in_default.not-Stale c.if-buffer-lt-ATOMS.false c.args.buffer.now c.read_next.new.buffer _ h;
       buffer = h.rows;
       rules = refl {a = b.rules.now};
       rows = refl {a = b.grades.rows.now};
       stays = stays_same s (rules_in b) (rows_in b);
-      rules-name = refl {a = b.rules.ghost_name};
-      rows-name = refl {a = b.grades.rows.ghost_name};
+      rules_name = refl {a = b.rules.ghost_name};
+      rows_name = refl {a = b.grades.rows.ghost_name};
     }

@@ -22,6 +22,6 @@ returns g c =
       state = h.state ∙ ap (λ n. next s.order width st (Fetch n)) (front_length s st k c.args.length rows buffer is);
       rows = whole.1 ∙ ap (λ a. kept_rows s st a rows) (sym c.fetched.ensures);
       stays = h.stays;
-      rules-name = h.rules-name;
-      rows-name = h.rows-name;
+      rules_name = h.rules_name;
+      rows_name = h.rows_name;
     }

@@ -15,6 +15,6 @@ returns g c =
       rules = k.rules;
       rows = k.rows;
       stays = k.stays;
-      rules-name = k.rules-name;
-      rows-name = k.rows-name;
+      rules_name = k.rules_name;
+      rows_name = k.rows_name;
     }

@@ -18,6 +18,6 @@ returns g c =
       state = ap₂ (λ rules rows. state_of s rules rows Stale) p q ∙ state-opened s rs xs (s.row_of s.order.bottom);
       rules = p;
       rows = q;
-      rules-name = refl;
-      rows-name = c.over.ensures.rows-name;
+      rules_name = refl;
+      rows_name = c.over.ensures.rows_name;
     }

@@ -18,8 +18,8 @@ returns-in-Rewind g c =
       state = k.state ∙ ap (λ call. next s.order width st (within n call)) (sym c.in-Rewind.is);
       rows = refl {a = c.args.rows.now};
       stays = k.stays;
-      rules-name = k.rules-name;
-      rows-name = k.rows-name;
+      rules_name = k.rules_name;
+      rows_name = k.rows_name;
     }
 
 pub returns-in-Conflict : goal.returns-in-Conflict
@@ -33,6 +33,6 @@ returns-in-Conflict g c =
       state = conflict-next s.order width st ∙ ap (λ call. next s.order width st (within n call)) (sym c.in-Conflict.is);
       rows = refl {a = c.args.rows.now};
       stays = stays_same s (rules_in b) (rows_in b);
-      rules-name = refl {a = b.rules.ghost_name};
-      rows-name = refl {a = b.grades.rows.ghost_name};
+      rules_name = refl {a = b.rules.ghost_name};
+      rows_name = refl {a = b.grades.rows.ghost_name};
     }

@@ -21,6 +21,6 @@ returns g c =
       state = c.perform.ensures.state ∙ ap (λ n. next s.order width st (within n c.args.call)) long;
       readings = ap₂ (λ p q. take from xs ++ (p ++ q)) rows (Post-is from (from + width) xs (omega arith));
       stays = c.perform.ensures.stays;
-      rules-name = c.perform.ensures.rules-name;
-      rows-name = c.perform.ensures.rows-name;
+      rules_name = c.perform.ensures.rules_name;
+      rows_name = c.perform.ensures.rows_name;
     }

@@ -6,4 +6,4 @@ use Rattle.rulebase.proofs.base.RuleBase.rewind.Goals as goal
 
 pub returns : goal.returns
 unfolding next state_of
-returns g c = record { state = refl; rules = refl; rows = refl; stays = stays_same g.S.Scale.scale _ _; rules-name = refl; rows-name = refl }
+returns g c = record { state = refl; rules = refl; rows = refl; stays = stays_same g.S.Scale.scale _ _; rules_name = refl; rows_name = refl }

@@ -10,16 +10,16 @@ returns-then-place-places g c =
     let b = c.args.self.now in
     at_out g.S.Scale.scale (rules_in b) (rows_in b) c.args.place (omega arith)
 
-pub returns-then-not-is-held : goal.returns-then-not-is-held
+pub returns-then-not-is_held : goal.returns-then-not-is_held
 unfolding state_of
-returns-then-not-is-held g c =
+returns-then-not-is_held g c =
     let b = c.args.self.now in
     let inside : c.args.place < count_of (rules_in b) (rows_in b) = omega arith in
-    at-empty g.S.Scale.scale (rules_in b) (rows_in b) c.args.place inside (sym c.if-not-is-held.ensures)
+    at-empty g.S.Scale.scale (rules_in b) (rows_in b) c.args.place inside (sym c.if-not-is_held.ensures)
 
 pub returns : goal.returns
 unfolding state_of
 returns g c =
     let b = c.args.self.now in
     let inside : c.args.place < count_of (rules_in b) (rows_in b) = omega arith in
-    at_held g.S.Scale.scale (rules_in b) (rows_in b) c.args.place inside (sym c.if-not-is-held.ensures) c.grade-at.result c.grade-at.ensures
+    at_held g.S.Scale.scale (rules_in b) (rows_in b) c.args.place inside (sym c.if-not-is_held.ensures) c.grade_at.result c.grade_at.ensures

@@ -26,13 +26,13 @@ returns-then-place-places g c =
       rules = sym (kept-refused s.order width st call 1 v refl _ _);
       rows = sym (kept-refused s.order width st call 1 v refl _ _);
       stays = stays_same s (rules_in b) (rows_in b);
-      rules-name = refl;
-      rows-name = refl;
+      rules_name = refl;
+      rows_name = refl;
     }
 
-pub returns-then-not-is-held : goal.returns-then-not-is-held
+pub returns-then-not-is_held : goal.returns-then-not-is_held
 unfolding state_of
-returns-then-not-is-held g c =
+returns-then-not-is_held g c =
     let s = g.S.Scale.scale in
     let b = c.args.self.now in
     let st = state_in s b in
@@ -41,15 +41,15 @@ returns-then-not-is-held g c =
     let inside : c.args.place < count_of (rules_in b) (rows_in b) = omega arith in
     let there : c.args.place < length (places_of s (rules_in b) (rows_in b)) = omega arith in
     let empty = empty-at s (rules_in b) (rows_in b) c.args.place inside in
-    let v = strike-empty s.order width st c.args.place there (empty ∙ ap not (sym c.if-not-is-held.ensures)) in
+    let v = strike-empty s.order width st c.args.place there (empty ∙ ap not (sym c.if-not-is_held.ensures)) in
     record {
       answer = sym (reply-refused s.order width st call 5 v refl);
       state = sym (next-refused s.order width st call 5 v refl);
       rules = sym (kept-refused s.order width st call 5 v refl _ _);
       rows = sym (kept-refused s.order width st call 5 v refl _ _);
       stays = stays_same s (rules_in b) (rows_in b);
-      rules-name = refl;
-      rows-name = refl;
+      rules_name = refl;
+      rows_name = refl;
     }
 
 pub returns : goal.returns
@@ -63,7 +63,7 @@ returns g c =
     let inside : c.args.place < count_of (rules_in b) (rows_in b) = omega arith in
     let there : c.args.place < length (places_of s (rules_in b) (rows_in b)) = omega arith in
     let empty = empty-at s (rules_in b) (rows_in b) c.args.place inside in
-    let v = strike-ok s.order width st c.args.place there (empty ∙ ap not (sym c.if-not-is-held.ensures)) in
+    let v = strike-ok s.order width st c.args.place there (empty ∙ ap not (sym c.if-not-is_held.ensures)) in
     let k = c.clear.ensures in
     record {
       answer = sym (reply-accepted s.order width st call v);
@@ -74,6 +74,6 @@ returns g c =
       rules = k.rules ∙ sym (new-accepted s.order width st call v _ _);
       rows = k.rows ∙ sym (new-accepted s.order width st call v _ _);
       stays = stays-as s (rules_in b) (rows_in b) k.rules k.rows (stays-set s (rules_in b) (rows_in b) c.args.place _ _ inside refl refl);
-      rules-name = k.rules-name;
-      rows-name = k.rows-name;
+      rules_name = k.rules_name;
+      rows_name = k.rows_name;
     }
