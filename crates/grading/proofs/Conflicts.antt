@@ -3,12 +3,12 @@ use Rattle.std.proofs.Common.{◌≡◌, ℕ, ◌^◌, ◌<◌, ◌≤◌, true,
 use Rattle.std.specs.List.{ContainsAt as Has}
 use Rattle.std.proofs.lemmas.List.{get_or-map}
 use Rattle.std.proofs.lemmas.Bool.{cases_Bool}
-use Rattle.scale.specs.Laws.{Order, Scaled}
+use Rattle.scale.specs.Laws.{Scaled}
 use Rattle.semantics.specs.Sets.{width}
 use Rattle.semantics.specs.Rules.{Rule, positive, reduct, breaks, founded, worst, objection, conflict}
 use Rattle.semantics.specs.Plain.{weigh, grade_in, grade_of, weighted, by_place, by_rank, Broken}
 use Rattle.semantics.specs.declared.rule.PlainRule.{PlainRule}
-use Rattle.semantics.proofs.Cuts.{Cut, le-by-cuts}
+use Rattle.semantics.proofs.Cuts.{le-by-cuts}
 use Rattle.semantics.proofs.Bests.{greatest-in, greatest-out}
 use Rattle.semantics.proofs.Plain.{graded-in, graded-out}
 use Rattle.semantics.proofs.Reducts.{Fails, broken-in, broken-out}

@@ -1,8 +1,7 @@
 -- What a change at one place leaves as it was.
-use Rattle.std.proofs.Common.{◌≡◌, ℕ, zero, suc, ◌<◌, min, List, [], ◌∷◌, map, take, drop, set, Option, sym, refl, ap, ◌∙◌, subst, ap₂, arith, length-set}
+use Rattle.std.proofs.Common.{◌≡◌, ℕ, zero, suc, ◌<◌, min, List, [], ◌∷◌, map, take, drop, set, sym, refl, ap, ◌∙◌, subst, ap₂, arith, length-set}
 use Rattle.std.proofs.lemmas.List.{map-set}
 use Rattle.scale.specs.Laws.{Scaled}
-use Rattle.semantics.specs.Rules.{Rule}
 use Rattle.rulebase.specs.declared.rule.Rule.{Rule as Record}
 use Rattle.rulebase.specs.Tables.{count_of, places_of, place_of, record_of, row_for}
 use Rattle.rulebase.specs.Runs.{Stays}

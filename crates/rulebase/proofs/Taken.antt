@@ -1,5 +1,5 @@
 -- The value at a place of a list, and what lies before it and after it.
-use Rattle.std.proofs.Common.{◌≡◌, ℕ, zero, suc, List, [], ◌∷◌, length, take, drop, Some, None, Option, sym, refl, inl, inr, arith}
+use Rattle.std.proofs.Common.{◌≡◌, ℕ, zero, suc, List, [], ◌∷◌, length, take, drop, Some, None, sym, refl, inl, inr, arith}
 use Rattle.semantics.specs.Rules.{Among}
 use Rattle.semantics.specs.Statements.{Rising}
 use Rattle.rulebase.specs.Reference.{nth}

@@ -1,5 +1,5 @@
 -- The reference that the rule base is held to. It keeps a rule or none for each place, and tries all sets.
-use Rattle.std.specs.Prelude.{ℕ, zero, suc, ◌+◌, Bool, true, false, cond, List, [], ◌∷◌, map, length, set, replicate, Some, None, Option, ◌==◌, nat_lt, slice_index_or, slice_set}
+use Rattle.std.specs.Prelude.{ℕ, zero, suc, ◌+◌, Bool, true, false, cond, List, [], ◌∷◌, map, length, replicate, Some, None, Option, ◌==◌, nat_lt, slice_index_or, slice_set}
 use Rattle.std.specs.List.{range_with_len}
 use Rattle.scale.specs.Laws.{Order, above}
 use Rattle.scale.specs.Refusals.{number_of}

@@ -1,7 +1,7 @@
 -- The texts of the points.
 use Rattle.std.specs.Prelude.{◌≡◌, ℕ, ◌≤◌, List, length, decimal}
 use Rattle.std.proofs.Common.{inr, arith}
-use Rattle.std.specs.List.{AllByRecursion as All}
+use Rattle.std.specs.List.{AllByRecursion}
 use Rattle.std.proofs.lemmas.Fmt.{decimal_injective, length-decimal-le, decimal_nonempty, decimal_by_steps}
 use Rattle.std.proofs.ByRecursion.{All-append}
 use Rattle.scale.specs.Points.{same_point, point_read, point_read-value}
@@ -25,10 +25,10 @@ pub point-short : (p : Point) → length (point_text p) ≤ 16
 point-short p = let small : p.value ≤ 100 = p.ok in omega (arith, length-decimal-le 3 p.value (omega arith) (omega arith) (omega arith))
 
 -- a text has plain bytes
-pub point-plain : (p : Point) → All Plain (point_text p)
+pub point-plain : (p : Point) → AllByRecursion Plain (point_text p)
 point-plain p =
     let small : p.value ≤ 100 = p.ok in
-    decimal_by_steps (λ n ds. All Plain ds)
+    decimal_by_steps (λ n ds. AllByRecursion Plain ds)
     (λ n h. (inr (omega arith, omega arith), tt))
     (λ n ds h all. All-append Plain ds _ all (inr (omega arith, omega arith), tt))
     p.value (omega arith)

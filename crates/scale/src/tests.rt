@@ -44,9 +44,9 @@ fn words_and_pairs_in_order(rt: HostRuntime) {
 
 #[test]
 fn texts_of_grades(rt: HostRuntime) {
-    assert_eq!(rt; Point::top().text().as_bytes(), b"100");
-    assert_eq!(rt; Point::bottom().text().as_bytes(), b"0");
-    assert_eq!(rt; Word::top().text().as_bytes(), b"sure");
+    assert_eq!(rt; Point::top().text().as_bytes(), b"100".as_slice());
+    assert_eq!(rt; Point::bottom().text().as_bytes(), b"0".as_slice());
+    assert_eq!(rt; Word::top().text().as_bytes(), b"sure".as_slice());
     assert_eq!(rt; Word::parse(b"none"), Some(Word::Nil));
     assert_eq!(rt; Point::parse(b"100"), Some(Point::top()));
 }

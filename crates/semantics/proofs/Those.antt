@@ -1,6 +1,6 @@
 -- What passes a test in a list, and orders of a list.
 use Rattle.std.proofs.Common.{◌≡◌, Bool, true, false, cond, not, ◌⊎◌, List, [], ◌∷◌, ◌++◌, sym, refl, ap, ◌∙◌, subst, inl, inr, ⊎_elim, true≢false, append-nil, arith}
-use Rattle.std.specs.List.{AllByRecursion as All}
+use Rattle.std.specs.List.{AllByRecursion}
 use Rattle.std.specs.List.Sorted.{IsPermutation}
 use Rattle.std.proofs.lemmas.List.Sorted.{IsPermutation-refl, IsPermutation-cons, IsPermutation-swap, IsPermutation-trans}
 use Rattle.std.proofs.ByRecursion.{all_shuffled}
@@ -50,12 +50,12 @@ module _ {X : Type 0} where
   in-none [] f = refl
   in-none (x ∷ xs) f = absurd (f x (inl refl))
 
-  all_in : (P : X → Type 0) (xs : List X) → All P xs → (r : X) → Among r xs → P r
+  all_in : (P : X → Type 0) (xs : List X) → AllByRecursion P xs → (r : X) → Among r xs → P r
   all_in P [] a r i = absurd i
   all_in P (x ∷ xs) a r (inl e) = subst P (sym e) a.0
   all_in P (x ∷ xs) a r (inr i) = all_in P xs a.1 r i
 
-  all_of : (P : X → Type 0) (xs : List X) → ((r : X) → Among r xs → P r) → All P xs
+  all_of : (P : X → Type 0) (xs : List X) → ((r : X) → Among r xs → P r) → AllByRecursion P xs
   all_of P [] f = tt
   all_of P (x ∷ xs) f = (f x (inl refl), all_of P xs (λ r i. f r (inr i)))
 

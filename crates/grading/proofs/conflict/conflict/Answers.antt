@@ -1,7 +1,6 @@
-use Rattle.std.proofs.Common.{◌≡◌, List, ap, ◌∙◌}
+use Rattle.std.proofs.Common.{List, ap, ◌∙◌}
 use Rattle.semantics.specs.Sets.{width}
 use Rattle.semantics.specs.Rules.{Rule, conflict}
-use Rattle.semantics.specs.Plain.{weighted}
 use Rattle.grading.proofs.Conflicts.{weighted-same, ranked-there, least-conflict, no-conflict}
 use Rattle.grading.proofs.conflict.conflict.Goals as goal
 

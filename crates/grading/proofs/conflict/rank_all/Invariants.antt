@@ -1,4 +1,4 @@
-use Rattle.std.proofs.Common.{◌≡◌, ℕ, ◌<◌, length, get_or}
+use Rattle.std.proofs.Common.{◌≡◌, ℕ, ◌<◌, get_or}
 use Rattle.semantics.specs.Plain.{by_place}
 use Rattle.grading.specs.Ranks.{ranks, ranks_of}
 use Rattle.grading.proofs.conflict.rank_all.Given as goal

@@ -1,4 +1,4 @@
-use Rattle.std.proofs.Common.{◌≡◌, ℕ, ◌+◌, ◌<◌, length, sym, ap, ◌∙◌, arith}
+use Rattle.std.proofs.Common.{ℕ, ◌+◌, ◌<◌, length, sym, ap, ◌∙◌, arith}
 use Rattle.grading.proofs.Ranking.{rank-few, rank-none, rank-more, rank-past, rank-all}
 use Rattle.grading.proofs.conflict.rank_of.Goals as goal
 use Rattle.grading.proofs.conflict.rank_of.Goals.{then-not-at_most, else-not-at_most}

@@ -1,5 +1,5 @@
 use Rattle.std.proofs.Common.{◌≡◌, ◌<◌, sym, ◌∙◌, ⊎_elim}
-use Rattle.semantics.specs.Sets.{others, collect, adding}
+use Rattle.semantics.specs.Sets.{others, collect}
 use Rattle.semantics.proofs.Sets.{decides-within, decides-disjoint, same-atoms, has-weight, in-adding, adding-in, adding-keeps, has-below, others_below, in-others, out-others, out-from, not-both, collect-below, collect-has}
 use Rattle.semantics.proofs.theory.sets_by_atoms.Goals as goal
 
