@@ -8,17 +8,17 @@ use Rattle.semantics.specs.Sets.{width}
 use Rattle.semantics.specs.Rules.{Rule, positive, reduct, breaks, founded, worst, objection, conflict}
 use Rattle.semantics.specs.Plain.{weigh, grade_in, grade_of, weighted, by_place, by_rank, Broken}
 use Rattle.semantics.specs.declared.rule.PlainRule.{PlainRule}
-use Rattle.semantics.proofs.Cuts.{le-by-cuts}
-use Rattle.semantics.proofs.Bests.{greatest-in, greatest-out}
-use Rattle.semantics.proofs.Plain.{graded-in, graded-out}
-use Rattle.semantics.proofs.Reducts.{Fails, broken-in, broken-out}
-use Rattle.semantics.proofs.Objections.{objection-founded, objection-unfounded}
-use Rattle.semantics.proofs.Alike.{alike-weighted, alike-reduct, alike-founded}
+use Rattle.semantics.proofs.Cuts.{le_by_cuts}
+use Rattle.semantics.proofs.Bests.{greatest_in, greatest-out}
+use Rattle.semantics.proofs.Plain.{graded_in, graded-out}
+use Rattle.semantics.proofs.Reducts.{Fails, broken_in, broken-out}
+use Rattle.semantics.proofs.Objections.{objection-founded, objection_unfounded}
+use Rattle.semantics.proofs.Alike.{alike_weighted, alike_reduct, alike_founded}
 use Rattle.semantics.proofs.Least.{conflict-least}
 use Rattle.search.specs.Admissible.{NoSuch, Candidate, LeastObjected}
-use Rattle.search.proofs.Forced.{fits-any}
+use Rattle.search.proofs.Forced.{fits_any}
 use Rattle.grading.specs.Ranks.{grades, rank_among, ranks, ranks_of}
-use Rattle.grading.proofs.Ranking.{rank-keeps, grade-among, ranks-at, same_length, same_place, same-grades}
+use Rattle.grading.proofs.Ranking.{rank-keeps, grade_among, ranks_at, same_length, same_place, same-grades}
 
 module _ {G R : Type 0} (s : Scaled G R) where
   -- rules that differ in their ranks alone mean the same
@@ -35,32 +35,32 @@ module _ {G R : Type 0} (s : Scaled G R) where
   -- foundedness does not look at grades or ranks
   pub founded-same : (w A : ℕ) (rules : List PlainRule) (rows : List R) → founded w (reduct A (weighted s rules rows)) A ≡ founded w (reduct A (by_rank rules)) A
   founded-same w A rules rows =
-      alike-founded w (reduct A (weighted s rules rows)) (reduct A (by_rank rules)) (alike-reduct A (weighted s rules rows) (by_rank rules) (alike-weighted s (λ r. r.rank) rules rows)) A
+      alike_founded w (reduct A (weighted s rules rows)) (reduct A (by_rank rules)) (alike_reduct A (weighted s rules rows) (by_rank rules) (alike_weighted s (λ r. r.rank) rules rows)) A
 
 -- every rule has the rank of its grade
 abbrev pub Ranked : {G R : Type 0} → Scaled G R → List R → List PlainRule → Type 0
 Ranked s rows rules = (q : PlainRule) → Has rules q → q.rank ≡ rank_among s.order (grades s rows rules) (grade_of s rows q)
 
-pub ranked-there : {G R : Type 0} (s : Scaled G R) (rows : List R) (xs ys : List PlainRule) → by_place ys ≡ by_place xs → ranks ys ≡ ranks_of s rows xs → Ranked s rows ys
-ranked-there s rows xs ys e r q h =
+pub ranked_there : {G R : Type 0} (s : Scaled G R) (rows : List R) (xs ys : List PlainRule) → by_place ys ≡ by_place xs → ranks ys ≡ ranks_of s rows xs → Ranked s rows ys
+ranked_there s rows xs ys e r q h =
     let i = h.0 in
     let here : get_or ys i q ≡ q = h.2 q in
     ap (λ (x : PlainRule). x.rank) (sym here) ∙ sym (get_or-map (λ (x : PlainRule). x.rank) ys i q 0 h.1)
     ∙ ap (λ (ns : List ℕ). get_or ns i 0) r
-    ∙ ranks-at s rows xs i q (omega (arith, h.1, same_length ys xs e)) (same_place ys xs e i q h.1 (sym here))
+    ∙ ranks_at s rows xs i q (omega (arith, h.1, same_length ys xs e)) (same_place ys xs e i q h.1 (sym here))
     ∙ ap (λ (gs : List _). rank_among s.order gs (grade_of s rows q)) (same-grades s rows xs ys (sym e))
 
 module _ {G R : Type 0} (s : Scaled G R) (rules : List PlainRule) (rows : List R) (ranked : Ranked s rows rules) where
   abbrev P : List (Rule G)
   P = weighted s rules rows
 
-  abbrev held-against : ℕ → G
-  held-against A = objection s.order width (reduct A P) A
+  abbrev held_against : ℕ → G
+  held_against A = objection s.order width (reduct A P) A
 
   -- the worst rule that A breaks is no worse than the worst that B breaks
   worst-least : (A B : ℕ) → ((q : PlainRule) → Has rules q → Broken A q → (p : PlainRule) × Has rules p × Broken B p × (q.rank ≤ p.rank)) → s.order.at_most (worst s.order A (reduct A P)) (worst s.order B (reduct B P)) ≡ true
   unfolding worst weighted positive
-  worst-least A B least = le-by-cuts s.order _ _ λ h cut t.
+  worst-least A B least = le_by_cuts s.order _ _ λ h cut t.
       let a = greatest-out s.order h cut (breaks A) (λ r. r.grade) (reduct A P) t in
       let b = broken-out A P a.0 a.1 a.2 in
       let q = graded-out (grade_of s rows) rules b.0 b.1 in
@@ -69,31 +69,31 @@ module _ {G R : Type 0} (s : Scaled G R) (rules : List PlainRule) (rows : List R
       let k = grade_of s rows p.0 in
       let low : rank_among s.order (grades s rows rules) g ≤ rank_among s.order (grades s rows rules) k = omega (arith, p.3, ranked q.0 q.1, ranked p.0 p.1) in
       let is : a.0.grade ≡ g = ap (λ (r : Rule G). r.grade) (b.3 ∙ ap positive q.2) in
-      let up = cut.up g k (rank-keeps s.order (grades s rows rules) g k (grade-among s rows rules p.0 p.1) low) (ap h (sym is) ∙ a.3) in
-      let c = broken-in B P (weigh p.0 k) (graded-in (grade_of s rows) rules p.0 p.1) p.2 in
-      greatest-in s.order h cut (breaks B) (λ r. r.grade) (reduct B P) (positive (weigh p.0 k)) c.0 c.1 up
+      let up = cut.up g k (rank-keeps s.order (grades s rows rules) g k (grade_among s rows rules p.0 p.1) low) (ap h (sym is) ∙ a.3) in
+      let c = broken_in B P (weigh p.0 k) (graded_in (grade_of s rows) rules p.0 p.1) p.2 in
+      greatest_in s.order h cut (breaks B) (λ r. r.grade) (reduct B P) (positive (weigh p.0 k)) c.0 c.1 up
 
   candidate : (A : ℕ) → A < 2 ^ width → founded width (reduct A P) A ≡ true → Candidate rules 0 0 A
-  candidate A l t = record { below = l; founds = sym (founded-same s width A rules rows) ∙ t; fits = fits-any A }
+  candidate A l t = record { below = l; founds = sym (founded-same s width A rules rows) ∙ t; fits = fits_any A }
 
   -- the set objected to least gives the conflict
-  pub least-conflict : (A : ℕ) → LeastObjected rules 0 0 A → held-against A ≡ conflict s.order width P
+  pub least-conflict : (A : ℕ) → LeastObjected rules 0 0 A → held_against A ≡ conflict s.order width P
   least-conflict A a =
       let least = conflict-least s.order width P in
       let at = least.attained 0 (omega arith) refl in
       let B = at.0 in
-      s.order.antisymmetric (held-against A) (conflict s.order width P)
-      (subst (λ (g : G). s.order.at_most (held-against A) g ≡ true) at.3
+      s.order.antisymmetric (held_against A) (conflict s.order width P)
+      (subst (λ (g : G). s.order.at_most (held_against A) g ≡ true) at.3
       (⊎_elim
       (λ (t : founded width (reduct B P) B ≡ true).
-      subst (λ (g : G). s.order.at_most g (held-against B) ≡ true) (sym (objection-founded s.order width (reduct A P) A (founded-same s width A rules rows ∙ a.candidate.founds)))
+      subst (λ (g : G). s.order.at_most g (held_against B) ≡ true) (sym (objection-founded s.order width (reduct A P) A (founded-same s width A rules rows ∙ a.candidate.founds)))
       (subst (λ (g : G). s.order.at_most (worst s.order A (reduct A P)) g ≡ true) (sym (objection-founded s.order width (reduct B P) B t)) (worst-least A B (a.least B (candidate B at.1 t)))))
-      (λ t. subst (λ (g : G). s.order.at_most (held-against A) g ≡ true) (sym (objection-unfounded s.order width (reduct B P) B t)) (s.order.greatest (held-against A)))
+      (λ t. subst (λ (g : G). s.order.at_most (held_against A) g ≡ true) (sym (objection_unfounded s.order width (reduct B P) B t)) (s.order.greatest (held_against A)))
       (cases_Bool (founded width (reduct B P) B))))
       (least.below A a.candidate.below refl)
 
   -- where no set is founded the conflict is the top
-  pub no-conflict : NoSuch (Candidate rules 0 0) → s.order.top ≡ conflict s.order width P
-  no-conflict none =
+  pub no_conflict : NoSuch (Candidate rules 0 0) → s.order.top ≡ conflict s.order width P
+  no_conflict none =
       let at = (conflict-least s.order width P).attained 0 (omega arith) refl in
-      ⊎_elim (λ t. absurd (none at.0 (candidate at.0 at.1 t))) (λ t. sym (objection-unfounded s.order width (reduct at.0 P) at.0 t) ∙ at.3) (cases_Bool (founded width (reduct at.0 P) at.0))
+      ⊎_elim (λ t. absurd (none at.0 (candidate at.0 at.1 t))) (λ t. sym (objection_unfounded s.order width (reduct at.0 P) at.0 t) ∙ at.3) (cases_Bool (founded width (reduct at.0 P) at.0))

@@ -23,10 +23,10 @@ module _ {X : Type 0} where
       go true e = omega arith
       go false e = e
 
-  pub those-past : (p : X → Bool) (xs : List X) (x : X) → p x ≡ false → length (those p (xs ++ x ∷ [])) ≡ length (those p xs)
+  pub those_past : (p : X → Bool) (xs : List X) (x : X) → p x ≡ false → length (those p (xs ++ x ∷ [])) ≡ length (those p xs)
   unfolding those
-  those-past p [] x t = ap length (cond-false (p x) (x ∷ []) [] t)
-  those-past p (y ∷ xs) x t = go (p y) (those-past p xs x t)
+  those_past p [] x t = ap length (cond-false (p x) (x ∷ []) [] t)
+  those_past p (y ∷ xs) x t = go (p y) (those_past p xs x t)
     where
       go : (b : Bool) → length (those p (xs ++ x ∷ [])) ≡ length (those p xs) → length (cond b (y ∷ those p (xs ++ x ∷ [])) (those p (xs ++ x ∷ []))) ≡ length (cond b (y ∷ those p xs) (those p xs))
       go true e = omega arith
@@ -42,10 +42,10 @@ module _ {X : Type 0} where
       go false l = omega arith
 
   module _ (p q : X → Bool) (more : (x : X) → p x ≡ true → q x ≡ true) where
-    those-mono : (xs : List X) → length (those p xs) ≤ length (those q xs)
+    those_mono : (xs : List X) → length (those p xs) ≤ length (those q xs)
     unfolding those
-    those-mono [] = omega arith
-    those-mono (x ∷ xs) = go (p x) (q x) (more x) (those-mono xs)
+    those_mono [] = omega arith
+    those_mono (x ∷ xs) = go (p x) (q x) (more x) (those_mono xs)
       where
         go : (a b : Bool) → (a ≡ true → b ≡ true) → length (those p xs) ≤ length (those q xs) → length (cond a (x ∷ those p xs) (those p xs)) ≤ length (cond b (x ∷ those q xs) (those q xs))
         go true true f l = omega arith
@@ -54,16 +54,16 @@ module _ {X : Type 0} where
         go false false f l = l
 
     -- a test that passes wherever another does, and once more, passes more often
-    those-less : (xs : List X) (x : X) → Among x xs → p x ≡ false → q x ≡ true → length (those p xs) < length (those q xs)
+    those_less : (xs : List X) (x : X) → Among x xs → p x ≡ false → q x ≡ true → length (those p xs) < length (those q xs)
     unfolding those
-    those-less [] x i u v = absurd i
-    those-less (y ∷ xs) x (inl e) u v =
+    those_less [] x i u v = absurd i
+    those_less (y ∷ xs) x (inl e) u v =
         let a : p y ≡ false = ap p (sym e) ∙ u in
         let b : q y ≡ true = ap q (sym e) ∙ v in
         let left = ap length (cond-false (p y) (y ∷ those p xs) (those p xs) a) in
         let right = ap length (cond-true (q y) (y ∷ those q xs) (those q xs) b) in
-        omega (arith, left, right, those-mono xs)
-    those-less (y ∷ xs) x (inr i) u v = go (p y) (q y) (more y) (those-less xs x i u v)
+        omega (arith, left, right, those_mono xs)
+    those_less (y ∷ xs) x (inr i) u v = go (p y) (q y) (more y) (those_less xs x i u v)
       where
         go : (a b : Bool) → (a ≡ true → b ≡ true) → length (those p xs) < length (those q xs) → length (cond a (y ∷ those p xs) (those p xs)) < length (cond b (y ∷ those q xs) (those q xs))
         go true true f l = omega arith
@@ -82,7 +82,7 @@ module _ {G : Type 0} (o : Order G) (gs : List G) where
       (λ above. absurd (omega (
         arith,
         l,
-        those-less (λ x. not (o.at_most h x)) (λ x. not (o.at_most g x))
+        those_less (λ x. not (o.at_most h x)) (λ x. not (o.at_most g x))
             (λ x t. not_from_false _ (⊎_elim (λ u. absurd (both_ways _ (not-true _ t) (o.transitive h g x (other_way o g h above) u))) (λ u. u) (cases_Bool (o.at_most g x))))
             gs h i (ap not (le_refl o h)) (not_from_false _ above),
       )))
@@ -100,8 +100,8 @@ module _ {G R : Type 0} (s : Scaled G R) (rows : List R) where
   grade_in_lem (r ∷ rules) zero q l e = inl (ap (grade_of s rows) (sym e))
   grade_in_lem (r ∷ rules) (suc k) q l e = inr (grade_in_lem rules k q (omega arith) e)
 
-  pub grade-among : (rules : List PlainRule) (q : PlainRule) → Has rules q → Among (grade_of s rows q) (grades s rows rules)
-  grade-among rules q h = grade_in_lem rules h.0 q h.1 (h.2 q)
+  pub grade_among : (rules : List PlainRule) (q : PlainRule) → Has rules q → Among (grade_of s rows q) (grades s rows rules)
+  grade_among rules q h = grade_in_lem rules h.0 q h.1 (h.2 q)
 
   -- rules that differ in their ranks alone have the same grades
   pub same-grades : (xs ys : List PlainRule) → by_place xs ≡ by_place ys → grades s rows xs ≡ grades s rows ys
@@ -139,13 +139,13 @@ module _ {G R : Type 0} (s : Scaled G R) (rows : List R) (rules : List PlainRule
     front : grades s rows (take (i + 1) rules) ≡ grades s rows (take i rules) ++ grade_of s rows r ∷ []
     front = ap (map (grade_of s rows)) (take_more rules i r l ∙ ap (λ (q : PlainRule). take i rules ++ q ∷ []) (sym read)) ∙ map_push (grade_of s rows) (take i rules) r
 
-    pub rank-more : s.order.at_most g (grade_of s rows r) ≡ false → rank_among s.order (grades s rows (take (i + 1) rules)) g ≡ rank_among s.order (grades s rows (take i rules)) g + 1
+    pub rank_more : s.order.at_most g (grade_of s rows r) ≡ false → rank_among s.order (grades s rows (take (i + 1) rules)) g ≡ rank_among s.order (grades s rows (take i rules)) g + 1
     unfolding rank_among
-    rank-more t = ap (λ gs. length (those Below gs)) front ∙ those-push Below (grades s rows (take i rules)) (grade_of s rows r) (ap not t)
+    rank_more t = ap (λ gs. length (those Below gs)) front ∙ those-push Below (grades s rows (take i rules)) (grade_of s rows r) (ap not t)
 
-    pub rank-past : s.order.at_most g (grade_of s rows r) ≡ true → rank_among s.order (grades s rows (take (i + 1) rules)) g ≡ rank_among s.order (grades s rows (take i rules)) g
+    pub rank_past : s.order.at_most g (grade_of s rows r) ≡ true → rank_among s.order (grades s rows (take (i + 1) rules)) g ≡ rank_among s.order (grades s rows (take i rules)) g
     unfolding rank_among
-    rank-past t = ap (λ gs. length (those Below gs)) front ∙ those-past Below (grades s rows (take i rules)) (grade_of s rows r) (ap not t)
+    rank_past t = ap (λ gs. length (those Below gs)) front ∙ those_past Below (grades s rows (take i rules)) (grade_of s rows r) (ap not t)
 
   pub rank-few : (i : ℕ) → i ≤ length rules → rank_among s.order (grades s rows (take i rules)) g ≤ i
   rank-few i l = omega (arith, rank-le s.order (grades s rows (take i rules)) g, length-map (take i rules) (grade_of s rows), length-take i rules)
@@ -166,9 +166,9 @@ same_numbers (x ∷ xs) (y ∷ ys) e f = ap₂ (λ (n : ℕ) (ns : List ℕ). n 
 
 module _ {G R : Type 0} (s : Scaled G R) (rows : List R) (rules : List PlainRule) where
   -- the rank at a place is that of the grade there
-  pub ranks-at : (k : ℕ) (q : PlainRule) → k < length rules → q.place ≡ (get_or rules k q).place → get_or (ranks_of s rows rules) k 0 ≡ rank_among s.order (grades s rows rules) (grade_of s rows q)
+  pub ranks_at : (k : ℕ) (q : PlainRule) → k < length rules → q.place ≡ (get_or rules k q).place → get_or (ranks_of s rows rules) k 0 ≡ rank_among s.order (grades s rows rules) (grade_of s rows q)
   unfolding ranks_of
-  ranks-at k q l e =
+  ranks_at k q l e =
       get_or-map (rank_among s.order (grades s rows rules)) (grades s rows rules) k (grade_of s rows q) 0 (omega (arith, length-map rules (grade_of s rows)))
       ∙ ap (rank_among s.order (grades s rows rules)) (get_or-map (grade_of s rows) rules k q (grade_of s rows q) l ∙ ap (grade_in s rows) (sym e))
 
@@ -176,8 +176,8 @@ module _ {G R : Type 0} (s : Scaled G R) (rows : List R) (rules : List PlainRule
   unfolding ranks_of
   length-ranks = length-map (grades s rows rules) (rank_among s.order (grades s rows rules)) ∙ length-map rules (grade_of s rows)
 
-  pub ranks-from : (xs : List ℕ) → length xs ≡ length rules → ((k : ℕ) → k < length rules → get_or xs k 0 ≡ get_or (ranks_of s rows rules) k 0) → xs ≡ ranks_of s rows rules
-  ranks-from xs long each = same_numbers xs (ranks_of s rows rules) (long ∙ sym length-ranks) (λ k l. each k (omega arith))
+  pub ranks_from : (xs : List ℕ) → length xs ≡ length rules → ((k : ℕ) → k < length rules → get_or xs k 0 ≡ get_or (ranks_of s rows rules) k 0) → xs ≡ ranks_of s rows rules
+  ranks_from xs long each = same_numbers xs (ranks_of s rows rules) (long ∙ sym length-ranks) (λ k l. each k (omega arith))
 
 -- rules that differ in their ranks alone have the same places, and are as many
 pub same_length : (xs ys : List PlainRule) → by_place xs ≡ by_place ys → length xs ≡ length ys

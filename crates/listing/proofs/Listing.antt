@@ -10,6 +10,6 @@ abbrev pub left : Option ℕ → ℕ
 left None = 0
 left (Some set) = 2 ^ width - set
 
-pub left-falls : (rules : List PlainRule) (set : ℕ) (next : Option ℕ) → set < 2 ^ width → MatchOption next (NoSuch (Later rules set)) (Least (Later rules set)) → left next < 2 ^ width - set
-left-falls rules set None l c = omega arith
-left-falls rules set (Some more) l c = omega (arith, c.passes.1)
+pub left_falls : (rules : List PlainRule) (set : ℕ) (next : Option ℕ) → set < 2 ^ width → MatchOption next (NoSuch (Later rules set)) (Least (Later rules set)) → left next < 2 ^ width - set
+left_falls rules set None l c = omega arith
+left_falls rules set (Some more) l c = omega (arith, c.passes.1)

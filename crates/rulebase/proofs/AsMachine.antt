@@ -10,7 +10,7 @@ use Rattle.rulebase.specs.declared.call.Call.{Call}
 use Rattle.rulebase.specs.declared.call.Call.TheVariants.{Enter, Strike, Cut, Mend, Rewind, Fetch, Conflict}
 use Rattle.rulebase.specs.Reference.{State, Standing, stale, after, Reply, refused, done, emptied, mended, model, no_more, grade, held, at, is_empty, cut_place, refusal, upcoming, fetched, answer, acted, reply, next, replies, final, opened}
 use Rattle.rulebase.specs.Laws.{fetching, resting, kind_of, kind_in, Quiet, sets, fetches, SizedCall, Sized, Lawful, FetchedAreLowestStable, NoMoreIffNoneLeft, HeldAreLawful, GradesAreNecessities, GradesAreReadings, ConflictIsLeastObjection, BottomConflictIffSomeStable}
-use Rattle.rulebase.proofs.Machines.{View, Fetches, Does, Comes, Machine, answers, reached, Rests, AllSized, fetched-are-lowest, then-stands, no-more-iff, lawful, are-necessities, are-readings, is-least-objection, bottom-iff-stable}
+use Rattle.rulebase.proofs.Machines.{View, Fetches, Does, Comes, Machine, answers, reached, Rests, AllSized, fetched_are_lowest, then_stands, no_more_iff, lawful, are_necessities, are_readings, is_least_objection, bottom_iff_stable}
 
 -- ---- Where a rule that is held comes from.
 
@@ -89,11 +89,11 @@ module _ {G : Type 0} (o : Order G) (w : ℕ) where
   abbrev pub seen : State G → View G
   seen s = record { rules = held s.places; standing = s.standing }
 
-  fetch-does : (ps : List (Option (Rule G))) (st : Standing) (n : ℕ) →
+  fetch_does : (ps : List (Option (Rule G))) (st : Standing) (n : ℕ) →
       let s : State G = record { places = ps; standing = st } in
       eqb (refusal o w s (Fetch n)) 0 ≡ true → Fetches o w (seen s) (seen (acted o w s (Fetch n))) (answer o w s (Fetch n))
-  fetch-does ps stale n t = absurd (false≢true t)
-  fetch-does ps (after k) n t = record { count = k; stood = refl; holds = refl; stands = refl; says = refl }
+  fetch_does ps stale n t = absurd (false≢true t)
+  fetch_does ps (after k) n t = record { count = k; stood = refl; holds = refl; stands = refl; says = refl }
 
   acted-does : (s : State G) (c : Call G) → eqb (refusal o w s c) 0 ≡ true → Does o w (kind_of c) (seen s) (seen (acted o w s c)) (answer o w s c)
   acted-does s (Enter place head pos neg g) t = (refl, record { no_set = refl; no_fetch = refl })
@@ -101,21 +101,21 @@ module _ {G : Type 0} (o : Order G) (w : ℕ) where
   acted-does s (Cut g) t = (refl, record { no_set = refl; no_fetch = refl })
   acted-does s Mend t = (refl, record { no_set = refl; no_fetch = refl })
   acted-does s Rewind t = (refl, refl, record { no_set = refl; no_fetch = refl })
-  acted-does s (Fetch n) t = fetch-does s.places s.standing n t
+  acted-does s (Fetch n) t = fetch_does s.places s.standing n t
   acted-does s Conflict t = (refl, refl, record { no_set = refl; no_fetch = refl })
 
-  answer-tells : (s : State G) (c : Call G) → Tells (held s.places) (answer o w s c)
-  answer-tells s (Enter place head pos neg g) = tt
-  answer-tells s (Strike place) = tt
-  answer-tells s (Cut g) = tt
-  answer-tells s Mend = tt
-  answer-tells s Rewind = tt
-  answer-tells s (Fetch n) = go (upcoming o w s)
+  answer_tells : (s : State G) (c : Call G) → Tells (held s.places) (answer o w s c)
+  answer_tells s (Enter place head pos neg g) = tt
+  answer_tells s (Strike place) = tt
+  answer_tells s (Cut g) = tt
+  answer_tells s Mend = tt
+  answer_tells s Rewind = tt
+  answer_tells s (Fetch n) = go (upcoming o w s)
     where
       go : (b : Option ℕ) → Tells (held s.places) (fetched o w (held s.places) b)
       go None = tt
       go (Some A) = tt
-  answer-tells s Conflict = refl
+  answer_tells s Conflict = refl
 
   -- ---- The interface: here alone `reply` and `next` are opened.
 
@@ -140,7 +140,7 @@ module _ {G : Type 0} (o : Order G) (w : ℕ) where
   tells s c = go (eqb (refusal o w s c) 0)
     where
       go : (b : Bool) → Tells (held s.places) (cond b (answer o w s c) (refused (refusal o w s c)))
-      go true = answer-tells s c
+      go true = answer_tells s c
       go false = tt
 
   pub grades : (s : State G) (c : Call G) (g : G) → reply o w s c ≡ grade g → g ≡ conflict o w (held s.places)
@@ -171,13 +171,13 @@ module _ {G : Type 0} (o : Order G) (w : ℕ) where
   rests s [] q = tt
   rests s (c ∷ cs) q = (q.0, rests (next o w s c) cs q.1)
 
-  all-sized : (cs : List (Call G)) → Sized w cs → AllSized o w reference cs
-  all-sized [] z = tt
-  all-sized (c ∷ cs) z = (z.0, all-sized cs z.1)
+  all_sized : (cs : List (Call G)) → Sized w cs → AllSized o w reference cs
+  all_sized [] z = tt
+  all_sized (c ∷ cs) z = (z.0, all_sized cs z.1)
 
   -- a fetch with a buffer that is long enough is refused only where the list is stale
-  fetch-kind : (s : State G) (k room : ℕ) → s.standing ≡ after k → w ≤ room → kind_in o w s (Fetch room) ≡ fetching
-  fetch-kind s k room e l =
+  fetch_kind : (s : State G) (k room : ℕ) → s.standing ≡ after k → w ≤ room → kind_in o w s (Fetch room) ≡ fetching
+  fetch_kind s k room e l =
       subst (λ (st : Standing). kind_in o w (record { places = s.places; standing = st }) (Fetch room) ≡ fetching) (sym e)
       (ap (λ (b : Bool). cond (eqb (cond b (number_of ShortGradeBuffer) 0) 0) fetching resting) (le-ltb room w l))
 
@@ -188,7 +188,7 @@ lowest-stable G o w n before since q =
     let a = final o w (opened o w n) before in
     let s = next o w a Rewind in
     subst (λ (xs : List (Reply G)). sets xs ≡ take (fetches xs) (stable_sets o w (held s.places))) (same-replies o w s since)
-    (fetched-are-lowest o w (reference o w) a Rewind refl since (rests o w s since q))
+    (fetched_are_lowest o w (reference o w) a Rewind refl since (rests o w s since q))
 
 pub none_left : (G : Type 0) → NoMoreIffNoneLeft G
 none_left G o w n before since room l q =
@@ -196,8 +196,8 @@ none_left G o w n before since room l q =
     let s = next o w a Rewind in
     let rest = rests o w s since q in
     let e = reached o w (reference o w) s since in
-    let k = then-stands o w (reference o w) a Rewind refl since rest in
-    let r = no-more-iff o w (reference o w) a Rewind refl since rest (Fetch room) (fetch-kind o w e k.0 room k.1 l) in
+    let k = then_stands o w (reference o w) a Rewind refl since rest in
+    let r = no_more_iff o w (reference o w) a Rewind refl since rest (Fetch room) (fetch_kind o w e k.0 room k.1 l) in
     subst (λ (u : State G). (reply o w u (Fetch room) ≡ no_more) ↔ ((A : ℕ) → stable o w (held s.places) A ≡ true → Among A (sets (replies o w s since)))) (same-final o w s since)
     (subst (λ (xs : List (Reply G)). (reply o w e (Fetch room) ≡ no_more) ↔ ((A : ℕ) → stable o w (held s.places) A ≡ true → Among A (sets xs))) (same-replies o w s since) r)
 
@@ -214,21 +214,21 @@ held-lawful G o w n calls =
     (record {
       heads = l.heads;
       graded = l.graded;
-      fits = λ z. l.fits (tt, all-sized o w calls z);
-      bodies = λ z. l.bodies (tt, all-sized o w calls z);
+      fits = λ z. l.fits (tt, all_sized o w calls z);
+      bodies = λ z. l.bodies (tt, all_sized o w calls z);
     })
 
 pub grades-necessities : (G : Type 0) → GradesAreNecessities G
-grades-necessities G o w n before c A grades e = are-necessities o w (reference o w) (final o w (opened o w n) before) c A grades e
+grades-necessities G o w n before c A grades e = are_necessities o w (reference o w) (final o w (opened o w n) before) c A grades e
 
-pub grades-readings : (G : Type 0) → GradesAreReadings G
-grades-readings G o w n before c A grades e z =
-    are-readings o w (reference o w) (final o w (opened o w n) before) c A grades e ((held-lawful G o w n before).fits z)
+pub grades_readings : (G : Type 0) → GradesAreReadings G
+grades_readings G o w n before c A grades e z =
+    are_readings o w (reference o w) (final o w (opened o w n) before) c A grades e ((held-lawful G o w n before).fits z)
 
 pub conflict-objection : (G : Type 0) → ConflictIsLeastObjection G
-conflict-objection G o w n before c g e = is-least-objection o w (reference o w) (final o w (opened o w n) before) c g e
+conflict-objection G o w n before c g e = is_least_objection o w (reference o w) (final o w (opened o w n) before) c g e
 
 pub conflict-bottom : (G : Type 0) → BottomConflictIffSomeStable G
 conflict-bottom G o w n before c g e z =
     let l = held-lawful G o w n before in
-    bottom-iff-stable o w (reference o w) (final o w (opened o w n) before) c g e (l.fits z) l.graded
+    bottom_iff_stable o w (reference o w) (final o w (opened o w n) before) c g e (l.fits z) l.graded

@@ -4,19 +4,19 @@ use Rattle.scale.specs.Laws.{Order}
 use Rattle.semantics.specs.Rules.{Rule, conflict}
 use Rattle.semantics.specs.Sets.{width}
 use Rattle.semantics.specs.Statements.{Fits, Graded}
-use Rattle.semantics.proofs.Objections.{free-of-conflict, stable-frees}
+use Rattle.semantics.proofs.Objections.{free_of_conflict, stable_frees}
 use Rattle.rulebase.specs.declared.call.Call.TheVariants.{Cut, Mend, Rewind, Conflict}
 use Rattle.rulebase.specs.Calls.{SomeStable}
 use Rattle.rulebase.specs.Reference.{State, Reply, refused, done, emptied, mended, model, no_more, grade, held, cut_count, reply, next}
 
 -- the conflict is the bottom exactly where some set is stable
 pub conflict-bottom : {G : Type 0} (o : Order G) (P : List (Rule G)) (g : G) → g ≡ conflict o width P → Fits width P → Graded o P → (g ≡ o.bottom) ↔ SomeStable o P
-conflict-bottom o P g e fits graded = (λ b. free-of-conflict o width P fits graded (sym e ∙ b), λ a. e ∙ stable-frees o width P fits a.0 a.2)
+conflict-bottom o P g e fits graded = (λ b. free_of_conflict o width P fits graded (sym e ∙ b), λ a. e ∙ stable_frees o width P fits a.0 a.2)
 
 module _ {G : Type 0} (o : Order G) (w : ℕ) (st : State G) where
-  pub rewind-reply : done ≡ reply o w st Rewind
+  pub rewind_reply : done ≡ reply o w st Rewind
   unfolding reply
-  rewind-reply = refl
+  rewind_reply = refl
 
   pub conflict-reply : (g : G) → g ≡ conflict o w (held st.places) → grade g ≡ reply o w st Conflict
   unfolding reply
@@ -47,14 +47,14 @@ module _ {G : Type 0} (o : Order G) (w : ℕ) (st : State G) where
 
   -- a cut at the conflict is a mend
   module _ (g : G) (e : grade g ≡ reply o w st Conflict) where
-    is-conflict : g ≡ conflict o w (held st.places)
+    is_conflict : g ≡ conflict o w (held st.places)
     unfolding reply conflict
-    is-conflict = ap (grade_told g) e
+    is_conflict = ap (grade_told g) e
 
-    pub mend-reply : (n : ℕ) → emptied n ≡ reply o w st (Cut g) → mended g n ≡ reply o w st Mend
+    pub mend_reply : (n : ℕ) → emptied n ≡ reply o w st (Cut g) → mended g n ≡ reply o w st Mend
     unfolding reply
-    mend-reply n c = ap (mended g) (ap count_told c) ∙ ap (λ (h : G). mended h (cut_count o w h st.places)) is-conflict
+    mend_reply n c = ap (mended g) (ap count_told c) ∙ ap (λ (h : G). mended h (cut_count o w h st.places)) is_conflict
 
-    pub mend-next : next o w st (Cut g) ≡ next o w st Mend
+    pub mend_next : next o w st (Cut g) ≡ next o w st Mend
     unfolding next
-    mend-next = ap (λ (h : G). next o w st (Cut h)) is-conflict
+    mend_next = ap (λ (h : G). next o w st (Cut h)) is_conflict

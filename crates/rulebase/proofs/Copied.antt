@@ -10,7 +10,7 @@ use Rattle.rulebase.specs.Held.{weighed_at}
 use Rattle.rulebase.specs.Reference.{held}
 use Rattle.rulebase.specs.Tables.{most_places, count_of, empty_record, place_of, pairs_of, places_of}
 use Rattle.rulebase.specs.declared.rule.Rule.{Rule as Record}
-use Rattle.rulebase.proofs.Places.{length_pairs, get_or-pairs, places-are}
+use Rattle.rulebase.proofs.Places.{length_pairs, get_or-pairs, places_are}
 
 pub held-append : {G : Type 0} (ps qs : List (Option (Rule G))) → held (ps ++ qs) ≡ held ps ++ held qs
 held-append [] qs = refl
@@ -51,12 +51,12 @@ module _ {G R : Type 0} (s : Scaled G R) where
             ∙ sym held_more;
       }
 
-      pub copied-past : weighed_at s rows None ≡ here → Copied (i + 1) count out
-      copied-past e = record {
+      pub copied_past : weighed_at s rows None ≡ here → Copied (i + 1) count out
+      copied_past e = record {
         long = inv.long;
         few = omega arith;
         same = inv.same ∙ sym (append-nil _) ∙ ap (λ p. held (take i (pairs_of s rules rows)) ++ held (p ∷ [])) e ∙ sym held_more;
       }
 
     pub copied_all : (i count : ℕ) (out : List PlainRule) → i ≡ count_of rules rows → Copied i count out → weighted s (take count out) rows ≡ held (places_of s rules rows)
-    copied_all i count out e inv = inv.same ∙ ap (λ n. held (take n (pairs_of s rules rows))) e ∙ sym (ap held (places-are s rules rows))
+    copied_all i count out e inv = inv.same ∙ ap (λ n. held (take n (pairs_of s rules rows))) e ∙ sym (ap held (places_are s rules rows))

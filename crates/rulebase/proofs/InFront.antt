@@ -51,8 +51,8 @@ module _ {G R : Type 0} (s : Scaled G R) (st : State G) where
       long : width ≤ length (take k rows)
       long = told-long A (length (take k rows)) buffer tells
 
-      front-rows : buffer ++ drop k rows ≡ over (rows_of s width f) rows
-      front-rows =
+      front_rows : buffer ++ drop k rows ≡ over (rows_of s width f) rows
+      front_rows =
           let xs = rows_of s width f in
           let w : length xs ≡ width = length-rows s width f in
           let h = front_length in
@@ -62,19 +62,19 @@ module _ {G R : Type 0} (s : Scaled G R) (st : State G) where
           ∙ ap (λ l. xs ++ l) (between (length xs) k rows (omega arith))
           ∙ sym (over-short xs rows (omega arith))
 
-      front-told : model A (map s.read_of (take width (buffer ++ drop k rows))) ≡ reply s.order width st (Fetch (min room (length rows)))
-      front-told =
+      front_told : model A (map s.read_of (take width (buffer ++ drop k rows))) ≡ reply s.order width st (Fetch (min room (length rows)))
+      front_told =
           let h = front_length in
           let room = long in
           ap (model A)
-          (ap (λ b. map s.read_of (take width b)) front-rows
+          (ap (λ b. map s.read_of (take width b)) front_rows
           ∙ laid-read s width f rows (omega arith)
           ∙ sym (ap (λ b. map s.read_of (take width b)) laid ∙ laid-read s width f (take k rows) room))
           ∙ tells
           ∙ ap (λ n. reply s.order width st (Fetch n)) front_length
 
     -- what the answer says, and what the whole buffer holds after it
-    pub front-fetched : (r : Result (Option ℕ) Refusal) → told_fetch s r buffer ≡ reply s.order width st (Fetch (length (take k rows))) → buffer ≡ fetched_rows s st r (take k rows) → (told s (fetched_or r) (buffer ++ drop k rows) ≡ reply s.order width st (Fetch (min room (length rows)))) × (buffer ++ drop k rows ≡ kept_rows s st (fetched_or r) rows)
-    front-fetched (Err e) a b = (a ∙ ap (λ n. reply s.order width st (Fetch n)) front_length, ap (λ l. l ++ drop k rows) b ∙ take-append-drop k rows)
-    front-fetched (Ok None) a b = (a ∙ ap (λ n. reply s.order width st (Fetch n)) front_length, ap (λ l. l ++ drop k rows) b ∙ take-append-drop k rows)
-    front-fetched (Ok (Some A)) a b = (front-told A a b, front-rows A a b)
+    pub front_fetched : (r : Result (Option ℕ) Refusal) → told_fetch s r buffer ≡ reply s.order width st (Fetch (length (take k rows))) → buffer ≡ fetched_rows s st r (take k rows) → (told s (fetched_or r) (buffer ++ drop k rows) ≡ reply s.order width st (Fetch (min room (length rows)))) × (buffer ++ drop k rows ≡ kept_rows s st (fetched_or r) rows)
+    front_fetched (Err e) a b = (a ∙ ap (λ n. reply s.order width st (Fetch n)) front_length, ap (λ l. l ++ drop k rows) b ∙ take-append-drop k rows)
+    front_fetched (Ok None) a b = (a ∙ ap (λ n. reply s.order width st (Fetch n)) front_length, ap (λ l. l ++ drop k rows) b ∙ take-append-drop k rows)
+    front_fetched (Ok (Some A)) a b = (front_told A a b, front_rows A a b)

@@ -7,19 +7,19 @@ use Rattle.scale.specs.Laws.{Order, above}
 use Rattle.semantics.specs.Sets.{has}
 use Rattle.semantics.specs.Rules.{Rule, Among, reduct, necessity, conflict, reading, stable, stable_sets, objection}
 use Rattle.semantics.specs.Statements.{Fits, Graded, LeastOf}
-use Rattle.semantics.proofs.Listing.{lists-stable}
+use Rattle.semantics.proofs.Listing.{lists_stable}
 use Rattle.semantics.proofs.Least.{conflict-least, necessity-least}
-use Rattle.semantics.proofs.Objections.{necessity-is-grade, free-of-conflict, stable-frees}
+use Rattle.semantics.proofs.Objections.{necessity_is_grade, free_of_conflict, stable_frees}
 use Rattle.semantics.proofs.Reducts.{reduct-fits}
 use Rattle.rulebase.specs.Reference.{Standing, stale, after, Reply, model, no_more, grade, nth, moved, fetched}
-use Rattle.rulebase.proofs.Taken.{left-none, left-more, take-nothing, nth-among, all-taken, not_taken}
+use Rattle.rulebase.proofs.Taken.{left-none, left_more, take_nothing, nth_among, all_taken, not_taken}
 use Rattle.rulebase.specs.Laws.{Kind, changing, rewinding, fetching, resting, Leaves, sets_in, fetches_in, sets, fetches, Lawful, Necessities}
 
 after_same : (m n : ℕ) → after m ≡ after n → m ≡ n
 after_same m n e = cc
 
-more-none : {G : Type 0} (A : ℕ) (gs : List G) → model A gs ≡ no_more → ⊥
-more-none A gs e = let z : ◌≡◌ {A = ℕ} 0 1 = cc in omega arith
+more_none : {G : Type 0} (A : ℕ) (gs : List G) → model A gs ≡ no_more → ⊥
+more_none A gs e = let z : ◌≡◌ {A = ℕ} 0 1 = cc in omega arith
 
 -- ---- The interface.
 
@@ -92,8 +92,8 @@ module _ {G : Type 0} (o : Order G) (w : ℕ) where
       pub holds : u.rules ≡ P
       pub stands : u.standing ≡ after (k + length (sets xs))
 
-    silent-more : (P : List (Rule G)) (k : ℕ) (r : Reply G) (xs : List (Reply G)) (u : View G) → Silent r → Listed P k xs u → Listed P k (r ∷ xs) u
-    silent-more P k r xs u q h =
+    silent_more : (P : List (Rule G)) (k : ℕ) (r : Reply G) (xs : List (Reply G)) (u : View G) → Silent r → Listed P k xs u → Listed P k (r ∷ xs) u
+    silent_more P k r xs u q h =
         let as_many : fetches xs ≡ fetches_in r + fetches xs = omega (arith, q.no_fetch) in
         record {
           are = ap (λ l. l ++ sets xs) q.no_set ∙ h.are ∙ ap (λ (f : ℕ). take f (drop k (stable_sets o w P))) as_many;
@@ -101,21 +101,21 @@ module _ {G : Type 0} (o : Order G) (w : ℕ) where
           stands = h.stands ∙ ap (λ (l : List ℕ). after (k + length (l ++ sets xs))) (sym q.no_set);
         }
 
-    ended-more : (P : List (Rule G)) (k : ℕ) (xs : List (Reply G)) (u : View G) → nth (stable_sets o w P) k ≡ None → Listed P k xs u → Listed P k (no_more ∷ xs) u
-    ended-more P k xs u e h =
+    ended_more : (P : List (Rule G)) (k : ℕ) (xs : List (Reply G)) (u : View G) → nth (stable_sets o w P) k ≡ None → Listed P k xs u → Listed P k (no_more ∷ xs) u
+    ended_more P k xs u e h =
         let d = left-none (stable_sets o w P) k e in
         record {
-          are = h.are ∙ ap (take (fetches xs)) d ∙ take-nothing (fetches xs) ∙ sym (take-nothing (1 + fetches xs)) ∙ ap (take (1 + fetches xs)) (sym d);
+          are = h.are ∙ ap (take (fetches xs)) d ∙ take_nothing (fetches xs) ∙ sym (take_nothing (1 + fetches xs)) ∙ ap (take (1 + fetches xs)) (sym d);
           holds = h.holds;
           stands = h.stands;
         }
 
-    model-more : (P : List (Rule G)) (k A : ℕ) (gs : List G) (xs : List (Reply G)) (u : View G) → nth (stable_sets o w P) k ≡ Some A → Listed P (suc k) xs u → Listed P k (model A gs ∷ xs) u
-    model-more P k A gs xs u e h =
+    model_more : (P : List (Rule G)) (k A : ℕ) (gs : List G) (xs : List (Reply G)) (u : View G) → nth (stable_sets o w P) k ≡ Some A → Listed P (suc k) xs u → Listed P k (model A gs ∷ xs) u
+    model_more P k A gs xs u e h =
         let one_more : suc (fetches xs) ≡ 1 + fetches xs = omega arith in
         let moves : suc k + length (sets xs) ≡ k + suc (length (sets xs)) = omega arith in
         record {
-          are = ap (λ (l : List ℕ). A ∷ l) h.are ∙ ap (take (suc (fetches xs))) (sym (left-more (stable_sets o w P) k A e)) ∙ ap (λ (f : ℕ). take f (drop k (stable_sets o w P))) one_more;
+          are = ap (λ (l : List ℕ). A ∷ l) h.are ∙ ap (take (suc (fetches xs))) (sym (left_more (stable_sets o w P) k A e)) ∙ ap (λ (f : ℕ). take f (drop k (stable_sets o w P))) one_more;
           holds = h.holds;
           stands = h.stands ∙ ap after moves;
         }
@@ -126,7 +126,7 @@ module _ {G : Type 0} (o : Order G) (w : ℕ) where
         ((j : ℕ) → u.rules ≡ P → u.standing ≡ after j → Listed P j xs e) → Listed P k (r ∷ xs) e
     listed_more changing P k v u r xs e l d p t rest = absurd l
     listed_more rewinding P k v u r xs e l d p t rest = absurd l
-    listed_more resting P k v u r xs e l d p t rest = silent-more P k r xs e d.2 (rest k (d.0 ∙ p) (d.1 ∙ t))
+    listed_more resting P k v u r xs e l d p t rest = silent_more P k r xs e d.2 (rest k (d.0 ∙ p) (d.1 ∙ t))
     listed_more fetching P k v u r xs e l d p t rest = go (nth (stable_sets o w P) k) refl
       where
         same : d.count ≡ k
@@ -142,10 +142,10 @@ module _ {G : Type 0} (o : Order G) (w : ℕ) where
         stands b h = d.stands ∙ ap (λ (c : Option ℕ). after (moved c d.count)) (at_here ∙ h) ∙ ap (λ (c : ℕ). after (moved b c)) same
 
         go : (b : Option ℕ) → nth (stable_sets o w P) k ≡ b → Listed P k (r ∷ xs) e
-        go None h = subst (λ (a : Reply G). Listed P k (a ∷ xs) e) (says None h) (ended-more P k xs e h (rest k (d.holds ∙ p) (stands None h)))
+        go None h = subst (λ (a : Reply G). Listed P k (a ∷ xs) e) (says None h) (ended_more P k xs e h (rest k (d.holds ∙ p) (stands None h)))
         go (Some A) h =
             subst (λ (a : Reply G). Listed P k (a ∷ xs) e) (says (Some A) h)
-            (model-more P k A (map (necessity o w (reduct A v.rules)) (range_with_len 0 w)) xs e h (rest (suc k) (d.holds ∙ p) (stands (Some A) h)))
+            (model_more P k A (map (necessity o w (reduct A v.rules)) (range_with_len 0 w)) xs e h (rest (suc k) (d.holds ∙ p) (stands (Some A) h)))
 
     pub listed : (P : List (Rule G)) (k : ℕ) (s : S) (cs : List C) → (m.view s).rules ≡ P → (m.view s).standing ≡ after k → Rests s cs →
         Listed P k (answers s cs) (m.view (reached s cs))
@@ -165,17 +165,17 @@ module _ {G : Type 0} (o : Order G) (w : ℕ) where
       whole = listed P 0 (m.next s c) cs refl begun quiet
 
       -- after a rewind and no change, the sets fetched are the lowest stable sets
-      pub fetched-are-lowest : sets (answers (m.next s c) cs) ≡ take (fetches (answers (m.next s c) cs)) (stable_sets o w (m.view (m.next s c)).rules)
-      fetched-are-lowest = whole.are
+      pub fetched_are_lowest : sets (answers (m.next s c) cs) ≡ take (fetches (answers (m.next s c) cs)) (stable_sets o w (m.view (m.next s c)).rules)
+      fetched_are_lowest = whole.are
 
-      pub then-stands : (k : ℕ) × ((m.view (reached (m.next s c) cs)).standing ≡ after k)
-      then-stands = (0 + length (sets (answers (m.next s c) cs)), whole.stands)
+      pub then_stands : (k : ℕ) × ((m.view (reached (m.next s c) cs)).standing ≡ after k)
+      then_stands = (0 + length (sets (answers (m.next s c) cs)), whole.stands)
 
       -- a further fetch says "no more" exactly when all were fetched
-      pub no-more-iff : (d : C) → m.kind (reached (m.next s c) cs) d ≡ fetching →
+      pub no_more_iff : (d : C) → m.kind (reached (m.next s c) cs) d ≡ fetching →
           (m.reply (reached (m.next s c) cs) d ≡ no_more)
           ↔ ((A : ℕ) → stable o w (m.view (m.next s c)).rules A ≡ true → Among A (sets (answers (m.next s c) cs)))
-      no-more-iff d fetch = (ends, ended)
+      no_more_iff d fetch = (ends, ended)
         where
           e : S
           e = reached (m.next s c) cs
@@ -189,20 +189,20 @@ module _ {G : Type 0} (o : Order G) (w : ℕ) where
           f : Fetches (m.view e) (m.view (m.next e d)) (m.reply e d)
           f = subst (λ (K : Kind). Does K (m.view e) (m.view (m.next e d)) (m.reply e d)) fetch (m.does e d)
 
-          so-many : f.count ≡ length (take (fetches xs) L)
-          so-many =
+          so_many : f.count ≡ length (take (fetches xs) L)
+          so_many =
               let counts : f.count ≡ 0 + length (sets xs) = after_same f.count (0 + length (sets xs)) (sym f.stood ∙ whole.stands) in
               let long : length (sets xs) ≡ length (take (fetches xs) L) = ap length whole.are in
               omega arith
 
           up : nth (stable_sets o w (m.view e).rules) f.count ≡ nth L (length (take (fetches xs) L))
-          up = ap (λ (Q : List (Rule G)). nth (stable_sets o w Q) f.count) whole.holds ∙ ap (nth L) so-many
+          up = ap (λ (Q : List (Rule G)). nth (stable_sets o w Q) f.count) whole.holds ∙ ap (nth L) so_many
 
           says : (b : Option ℕ) → nth L (length (take (fetches xs) L)) ≡ b → m.reply e d ≡ fetched o w (m.view e).rules b
           says b h = f.says ∙ ap (fetched o w (m.view e).rules) (up ∙ h)
 
-          in-sets : (A : ℕ) → Among A (take (fetches xs) L) → Among A (sets xs)
-          in-sets A i = subst (Among A) (sym whole.are) i
+          in_sets : (A : ℕ) → Among A (take (fetches xs) L) → Among A (sets xs)
+          in_sets A i = subst (Among A) (sym whole.are) i
 
           out-sets : (A : ℕ) → Among A (sets xs) → Among A (take (fetches xs) L)
           out-sets A i = subst (Among A) whole.are i
@@ -211,8 +211,8 @@ module _ {G : Type 0} (o : Order G) (w : ℕ) where
           ends r A t = go (nth L (length (take (fetches xs) L))) refl
             where
               go : (b : Option ℕ) → nth L (length (take (fetches xs) L)) ≡ b → Among A (sets xs)
-              go None h = in-sets A (all-taken L (fetches xs) A h (((lists-stable o w P).all A).1 t))
-              go (Some B) h = absurd (more-none _ _ (sym (says (Some B) h) ∙ r))
+              go None h = in_sets A (all_taken L (fetches xs) A h (((lists_stable o w P).all A).1 t))
+              go (Some B) h = absurd (more_none _ _ (sym (says (Some B) h) ∙ r))
 
           ended : ((A : ℕ) → stable o w P A ≡ true → Among A (sets xs)) → m.reply e d ≡ no_more
           ended h = go (nth L (length (take (fetches xs) L))) refl
@@ -220,8 +220,8 @@ module _ {G : Type 0} (o : Order G) (w : ℕ) where
               go : (b : Option ℕ) → nth L (length (take (fetches xs) L)) ≡ b → m.reply e d ≡ no_more
               go None k = says None k
               go (Some B) k =
-                  absurd (not_taken L (fetches xs) B (lists-stable o w P).rising k
-                  (out-sets B (h B (((lists-stable o w P).all B).0 (nth-among L (length (take (fetches xs) L)) B k)))))
+                  absurd (not_taken L (fetches xs) B (lists_stable o w P).rising k
+                  (out-sets B (h B (((lists_stable o w P).all B).0 (nth_among L (length (take (fetches xs) L)) B k)))))
 
     -- ---- What is held.
 
@@ -260,11 +260,11 @@ module _ {G : Type 0} (o : Order G) (w : ℕ) where
     told fetching v u r A gs d e = go (nth (stable_sets o w v.rules) d.count) refl (sym d.says ∙ e)
       where
         go : (b : Option ℕ) → nth (stable_sets o w v.rules) d.count ≡ b → fetched o w v.rules b ≡ model A gs → Told v.rules A gs
-        go None h k = absurd (more-none A gs (sym k))
+        go None h k = absurd (more_none A gs (sym k))
         go (Some B) h k =
             let same : B ≡ A = cc in
             let list : map (necessity o w (reduct B v.rules)) (range_with_len 0 w) ≡ gs = cc in (
-              subst (λ (X : ℕ). stable o w v.rules X ≡ true) same (((lists-stable o w v.rules).all B).0 (nth-among _ d.count B h)),
+              subst (λ (X : ℕ). stable o w v.rules X ≡ true) same (((lists_stable o w v.rules).all B).0 (nth_among _ d.count B h)),
               sym list ∙ ap (λ (X : ℕ). map (necessity o w (reduct X v.rules)) (range_with_len 0 w)) same,
             )
 
@@ -273,31 +273,31 @@ module _ {G : Type 0} (o : Order G) (w : ℕ) where
         tells : (stable o w (m.view s).rules A ≡ true) × (gs ≡ map (necessity o w (reduct A (m.view s).rules)) (range_with_len 0 w))
         tells = told (m.kind s c) (m.view s) (m.view (m.next s c)) (m.reply s c) A gs (m.does s c) e
 
-        at-atom : (x : ℕ) → x < w → get_or gs x o.bottom ≡ necessity o w (reduct A (m.view s).rules) x
-        at-atom x l = ap (λ (l : List G). get_or l x o.bottom) tells.1 ∙ get_or-map-range_with_len (necessity o w (reduct A (m.view s).rules)) 0 w x x o.bottom l (omega arith)
+        at_atom : (x : ℕ) → x < w → get_or gs x o.bottom ≡ necessity o w (reduct A (m.view s).rules) x
+        at_atom x l = ap (λ (l : List G). get_or l x o.bottom) tells.1 ∙ get_or-map-range_with_len (necessity o w (reduct A (m.view s).rules)) 0 w x x o.bottom l (omega arith)
 
-        pub are-necessities : Necessities o w (m.view s).rules A gs
-        are-necessities = record {
+        pub are_necessities : Necessities o w (m.view s).rules A gs
+        are_necessities = record {
           stands = tells.0;
           long = ap length tells.1 ∙ length-map-range_with_len (necessity o w (reduct A (m.view s).rules)) 0 w;
           least = λ x l.
               subst (λ (g : G). LeastOf o w g (λ B. not (has B x)) (objection o w (reduct A (m.view s).rules)))
-              (sym (at-atom x l)) (necessity-least o w (reduct A (m.view s).rules) x);
+              (sym (at_atom x l)) (necessity-least o w (reduct A (m.view s).rules) x);
         }
 
-        pub are-readings : Fits w (m.view s).rules → (x : ℕ) → x < w → get_or gs x o.bottom ≡ reading o w (m.view s).rules A x
+        pub are_readings : Fits w (m.view s).rules → (x : ℕ) → x < w → get_or gs x o.bottom ≡ reading o w (m.view s).rules A x
         unfolding reading
-        are-readings fits x l = at-atom x l ∙ necessity-is-grade o w (reduct A (m.view s).rules) (reduct-fits w A (m.view s).rules fits) x l
+        are_readings fits x l = at_atom x l ∙ necessity_is_grade o w (reduct A (m.view s).rules) (reduct-fits w A (m.view s).rules fits) x l
 
       module _ (g : G) (e : m.reply s c ≡ grade g) where
-        pub is-least-objection : LeastOf o w g (λ A. true) (λ A. objection o w (reduct A (m.view s).rules) A)
-        is-least-objection =
+        pub is_least_objection : LeastOf o w g (λ A. true) (λ A. objection o w (reduct A (m.view s).rules) A)
+        is_least_objection =
             subst (λ (x : G). LeastOf o w x (λ A. true) (λ A. objection o w (reduct A (m.view s).rules) A))
             (sym (m.grades s c g e)) (conflict-least o w (m.view s).rules)
 
-        pub bottom-iff-stable : Fits w (m.view s).rules → Graded o (m.view s).rules →
+        pub bottom_iff_stable : Fits w (m.view s).rules → Graded o (m.view s).rules →
             (g ≡ o.bottom) ↔ ((A : ℕ) × (A < 2 ^ w) × (stable o w (m.view s).rules A ≡ true))
-        bottom-iff-stable fits graded = (
-          λ b. free-of-conflict o w (m.view s).rules fits graded (sym (m.grades s c g e) ∙ b),
-          λ a. m.grades s c g e ∙ stable-frees o w (m.view s).rules fits a.0 a.2,
+        bottom_iff_stable fits graded = (
+          λ b. free_of_conflict o w (m.view s).rules fits graded (sym (m.grades s c g e) ∙ b),
+          λ a. m.grades s c g e ∙ stable_frees o w (m.view s).rules fits a.0 a.2,
         )

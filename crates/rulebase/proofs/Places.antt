@@ -8,11 +8,11 @@ use Rattle.rulebase.specs.declared.rule.Rule.{Rule as Record}
 use Rattle.rulebase.specs.Tables.{most_places, count_of, place_of, pairs_of, places_of}
 
 -- the front of a list with one entry written
-pub take-of-set : {A : Type 0} (n : ℕ) (xs : List A) (k : ℕ) (y : A) → take n (set xs k y) ≡ set (take n xs) k y
-take-of-set zero xs k y = refl
-take-of-set (suc n) [] k y = refl
-take-of-set (suc n) (x ∷ xs) zero y = refl
-take-of-set (suc n) (x ∷ xs) (suc k) y = ap (λ l. x ∷ l) (take-of-set n xs k y)
+pub take_of_set : {A : Type 0} (n : ℕ) (xs : List A) (k : ℕ) (y : A) → take n (set xs k y) ≡ set (take n xs) k y
+take_of_set zero xs k y = refl
+take_of_set (suc n) [] k y = refl
+take_of_set (suc n) (x ∷ xs) zero y = refl
+take_of_set (suc n) (x ∷ xs) (suc k) y = ap (λ l. x ∷ l) (take_of_set n xs k y)
 
 -- a front is no longer than the list
 pub take_within : {A : Type 0} (n m : ℕ) (xs : List A) → m ≡ min (length xs) n → take n xs ≡ take m xs
@@ -59,9 +59,9 @@ module _ {G R : Type 0} (s : Scaled G R) where
 
   pub set-places : (rules : List Record) (rows : List R) (k : ℕ) (r : Record) (x : R) → places_of s (set rules k r) (set rows k x) ≡ set (places_of s rules rows) k (place_of s r x)
   unfolding places_of
-  set-places rules rows k r x = ap (take most_places) (set-pairs rules rows k r x) ∙ take-of-set most_places (pairs_of s rules rows) k (place_of s r x)
+  set-places rules rows k r x = ap (take most_places) (set-pairs rules rows k r x) ∙ take_of_set most_places (pairs_of s rules rows) k (place_of s r x)
 
   -- the places are the first pairs, as many as there are places
-  pub places-are : (rules : List Record) (rows : List R) → places_of s rules rows ≡ take (count_of rules rows) (pairs_of s rules rows)
+  pub places_are : (rules : List Record) (rows : List R) → places_of s rules rows ≡ take (count_of rules rows) (pairs_of s rules rows)
   unfolding places_of
-  places-are rules rows = let h = length_pairs rules rows in take_within most_places (count_of rules rows) (pairs_of s rules rows) (omega arith)
+  places_are rules rows = let h = length_pairs rules rows in take_within most_places (count_of rules rows) (pairs_of s rules rows) (omega arith)

@@ -12,9 +12,9 @@ use Rattle.semantics.specs.Rules.{Rule, Among, reduct, reading, necessity, stabl
 use Rattle.semantics.specs.Plain.{weigh, weighted, rows_of, over, truth, held as held_true}
 use Rattle.semantics.specs.Statements.{Fits, Graded, as_true}
 use Rattle.semantics.specs.declared.rule.PlainRule.{PlainRule}
-use Rattle.semantics.proofs.Alike.{stable-on-truth}
-use Rattle.semantics.proofs.Members.{option-weaker}
-use Rattle.semantics.proofs.Objections.{necessity-is-grade}
+use Rattle.semantics.proofs.Alike.{stable_on_truth}
+use Rattle.semantics.proofs.Members.{option_weaker}
+use Rattle.semantics.proofs.Objections.{necessity_is_grade}
 use Rattle.semantics.proofs.Plain.{weighted-fits}
 use Rattle.semantics.proofs.Reducts.{reduct-fits}
 use Rattle.search.specs.Admissible.{NoSuch, Least}
@@ -26,7 +26,7 @@ use Rattle.rulebase.specs.Tables.{most_places, holds, pairs_of, places_of, stand
 use Rattle.rulebase.specs.declared.cursor.Cursor.{Cursor}
 use Rattle.rulebase.specs.declared.cursor.Cursor.TheVariants as cursor
 use Rattle.rulebase.specs.declared.rule.Rule.{Rule as Record}
-use Rattle.rulebase.proofs.Upcoming.{From, next-is, found-count, passed-all}
+use Rattle.rulebase.proofs.Upcoming.{From, next_is, found-count, passed-all}
 
 module _ {G R : Type 0} (s : Scaled G R) where
   -- the rules with grades, held true, are the rules held true
@@ -75,7 +75,7 @@ module _ {G R : Type 0} (s : Scaled G R) where
   necessities w P A fits =
       let o = s.order in
       fill_by_all (reading o w P A) (map (necessity o w (reduct A P)) (range_with_len 0 w)) w o.bottom (length-map-range_with_len (necessity o w (reduct A P)) 0 w)
-      (λ k l. get_or-map-range_with_len (necessity o w (reduct A P)) 0 w k k o.bottom l (omega arith) ∙ necessity-is-grade o w (reduct A P) (reduct-fits w A P fits) k l)
+      (λ k l. get_or-map-range_with_len (necessity o w (reduct A P)) 0 w k k o.bottom l (omega arith) ∙ necessity_is_grade o w (reduct A P) (reduct-fits w A P fits) k l)
 
   below_none : (w : ℕ) (P : List (Rule G)) → 0 ≡ length (stable_below s.order w P 0)
   unfolding stable_below
@@ -96,30 +96,30 @@ module _ {G R : Type 0} (s : Scaled G R) where
     abbrev P : List (Rule G)
     P = held (places_of s rules rows)
 
-    pub places-fit : Fits width P
-    places-fit = subst (Fits width) e (weighted-fits s rs rows)
+    pub places_fit : Fits width P
+    places_fit = subst (Fits width) e (weighted-fits s rs rows)
 
     -- the stable sets of the rules read out
     pub same-stable : (A : ℕ) → stable s.order width P A ≡ stable truth width (held_true rs) A
     same-stable A =
-        stable-on-truth s.order width P places-fit (places-graded rules rows) A
+        stable_on_truth s.order width P places_fit (places-graded rules rows) A
         ∙ ap (λ (Q : List (Rule Bool)). stable truth width Q A) (ap (map as_true) (sym e) ∙ map-as_true rs rows)
 
     module _ (c : Cursor) where
-      from-ahead : (r : Option ℕ) → MatchOption r (NoSuch (Ahead rs (start c))) (Least (Ahead rs (start c))) → MatchOption r (NoSuch (From s.order width P (start c))) (Least (From s.order width P (start c)))
-      from-ahead r h =
+      from_ahead : (r : Option ℕ) → MatchOption r (NoSuch (Ahead rs (start c))) (Least (Ahead rs (start c))) → MatchOption r (NoSuch (From s.order width P (start c))) (Least (From s.order width P (start c)))
+      from_ahead r h =
           let there : (A : ℕ) → Ahead rs (start c) A → From s.order width P (start c) A = λ A a. (same-stable A ∙ a.0, a.1) in
           let back : (A : ℕ) → From s.order width P (start c) A → Ahead rs (start c) A = λ A f. (sym (same-stable A) ∙ f.0, f.1) in
-          option-weaker r (NoSuch (Ahead rs (start c))) (NoSuch (From s.order width P (start c))) (Least (Ahead rs (start c))) (Least (From s.order width P (start c))) h
+          option_weaker r (NoSuch (Ahead rs (start c))) (NoSuch (From s.order width P (start c))) (Least (Ahead rs (start c))) (Least (From s.order width P (start c))) h
           (λ none b f. none b (back b f))
           (λ a l. record { passes = there a l.passes; least = λ b f. l.least b (back b f) })
 
       pub read_none : (entry : List R) → NoSuch (Ahead rs (start c)) → Read s (state_of s rules rows c) entry entry None
       unfolding state_of
       read_none entry h =
-          let f = from-ahead None h in
+          let f = from_ahead None h in
           record {
-            set = next-is s.order width P (start c) None f ∙ ap (nth (stable_sets s.order width P)) (sym (passed_start P c));
+            set = next_is s.order width P (start c) None f ∙ ap (nth (stable_sets s.order width P)) (sym (passed_start P c));
             rows = refl;
             told = refl;
             moves = ap after (ap length (passed-all s.order width P (start c) f) ∙ sym (passed_start P c));
@@ -128,11 +128,11 @@ module _ {G R : Type 0} (s : Scaled G R) where
       pub read_some : (entry exit : List R) (a : ℕ) → Least (Ahead rs (start c)) a → width ≤ length entry → exit ≡ over (rows_of s width (reading s.order width (weighted s rs rows) a)) entry → Read s (state_of s rules rows c) entry exit (Some a)
       unfolding state_of
       read_some entry exit a h room laid =
-          let f = from-ahead (Some a) h in
+          let f = from_ahead (Some a) h in
           let lies : exit ≡ over (rows_of s width (reading s.order width P a)) entry = laid ∙ ap (λ (Q : List (Rule G)). over (rows_of s width (reading s.order width Q a)) entry) e in
           record {
-            set = next-is s.order width P (start c) (Some a) f ∙ ap (nth (stable_sets s.order width P)) (sym (passed_start P c));
+            set = next_is s.order width P (start c) (Some a) f ∙ ap (nth (stable_sets s.order width P)) (sym (passed_start P c));
             rows = lies;
-            told = ap (model a) (ap (λ (b : List R). map s.read_of (take width b)) lies ∙ laid-read width (reading s.order width P a) entry room ∙ sym (necessities width P a places-fit));
+            told = ap (model a) (ap (λ (b : List R). map s.read_of (take width b)) lies ∙ laid-read width (reading s.order width P a) entry room ∙ sym (necessities width P a places_fit));
             moves = ap after (found-count s.order width P (start c) a f ∙ ap suc (sym (passed_start P c)));
           }

@@ -19,13 +19,13 @@ module _ {G : Type 0} (o : Order G) (w : ℕ) (st : State G) (c : Call G) where
     kept-refused new old = ap (λ m. cond (eqb m 0) new old) e ∙ cond-false _ _ _ no_zero
 
   module _ (e : refusal o w st c ≡ 0) where
-    pub reply-accepted : reply o w st c ≡ answer o w st c
+    pub reply_accepted : reply o w st c ≡ answer o w st c
     unfolding reply
-    reply-accepted = ap (λ m. cond (eqb m 0) (answer o w st c) (refused m)) e
+    reply_accepted = ap (λ m. cond (eqb m 0) (answer o w st c) (refused m)) e
 
-    pub next-accepted : next o w st c ≡ acted o w st c
+    pub next_accepted : next o w st c ≡ acted o w st c
     unfolding next
-    next-accepted = ap (λ m. cond (eqb m 0) (acted o w st c) st) e
+    next_accepted = ap (λ m. cond (eqb m 0) (acted o w st c) st) e
 
-    pub new-accepted : {A : Type 0} (new old : A) → cond (eqb (refusal o w st c) 0) new old ≡ new
-    new-accepted new old = ap (λ m. cond (eqb m 0) new old) e
+    pub new_accepted : {A : Type 0} (new old : A) → cond (eqb (refusal o w st c) 0) new old ≡ new
+    new_accepted new old = ap (λ m. cond (eqb m 0) new old) e

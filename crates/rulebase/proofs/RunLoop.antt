@@ -16,7 +16,7 @@ use Rattle.rulebase.specs.Lists.{first_calls, told_all, kept_all}
 use Rattle.rulebase.specs.Reference.{State, model, reply, next, replies, final}
 use Rattle.rulebase.specs.Runs.{told, kept_rows, within, Stays}
 use Rattle.rulebase.specs.Tables.{count_of, empty_record, places_of, record_of, row_for, Exact}
-use Rattle.rulebase.proofs.Setting.{fill-length, places-opened}
+use Rattle.rulebase.proofs.Setting.{fill_length, places-opened}
 use Rattle.rulebase.proofs.Staying.{stays_same, stays_then}
 
 map-replicate : {A B : Type 0} (f : A → B) (n : ℕ) (x : A) → map f (replicate n x) ≡ replicate n (f x)
@@ -35,14 +35,14 @@ module _ {G R : Type 0} (s : Scaled G R) where
   replies-push st (d ∷ cs) c = ap (λ l. reply s.order width st d ∷ l) (replies-push (next s.order width st d) cs c)
 
   -- an answer reads no more than the front of its rows
-  told-front : (a : Answer G) (xs ys : List R) → take width xs ≡ take width ys → told s a xs ≡ told s a ys
-  told-front (said.Refused e) xs ys p = refl
-  told-front said.Done xs ys p = refl
-  told-front (said.Emptied n) xs ys p = refl
-  told-front (said.Mended g n) xs ys p = refl
-  told-front (said.Reading A) xs ys p = ap (λ l. model A (map s.read_of l)) p
-  told-front said.NoMore xs ys p = refl
-  told-front (said.Conflict g) xs ys p = refl
+  told_front : (a : Answer G) (xs ys : List R) → take width xs ≡ take width ys → told s a xs ≡ told s a ys
+  told_front (said.Refused e) xs ys p = refl
+  told_front said.Done xs ys p = refl
+  told_front (said.Emptied n) xs ys p = refl
+  told_front (said.Mended g n) xs ys p = refl
+  told_front (said.Reading A) xs ys p = ap (λ l. model A (map s.read_of l)) p
+  told_front said.NoMore xs ys p = refl
+  told_front (said.Conflict g) xs ys p = refl
 
   -- a call keeps the number of its rows
   pub kept-length : (st : State G) (a : Answer G) (rows : List R) → length (kept_rows s st a rows) ≡ length rows
@@ -57,11 +57,11 @@ module _ {G R : Type 0} (s : Scaled G R) where
 
   -- the rows front are those of the answers before, new those of the answer a
   told_push : (answers : List (Answer G)) (a : Answer G) (front new rest old : List R) → length front ≡ width * length answers → length new ≡ width → told_all s (answers ++ a ∷ []) (front ++ (new ++ rest)) ≡ told_all s answers (front ++ old) ++ told s a new ∷ []
-  told_push [] a [] new rest old p q = ap (λ r. r ∷ []) (told-front a (new ++ rest) new (take-append-le width new rest (omega arith)))
+  told_push [] a [] new rest old p q = ap (λ r. r ∷ []) (told_front a (new ++ rest) new (take-append-le width new rest (omega arith)))
   told_push [] a (x ∷ front) new rest old p q = absurd (omega arith)
   told_push (b ∷ answers) a front new rest old p q =
       ap₂ (λ r l. r ∷ l)
-      (told-front b (front ++ (new ++ rest)) (front ++ old) (take-append-le width front (new ++ rest) (omega arith) ∙ sym (take-append-le width front old (omega arith))))
+      (told_front b (front ++ (new ++ rest)) (front ++ old) (take-append-le width front (new ++ rest) (omega arith) ∙ sym (take-append-le width front old (omega arith))))
       (ap (told_all s (answers ++ a ∷ [])) (drop-append-le width front (new ++ rest) (omega arith))
       ∙ told_push answers a (drop width front) new rest old (length-drop width front ∙ omega arith) q
       ∙ ap (λ l. told_all s answers l ++ told s a new ∷ []) (sym (drop-append-le width front old (omega arith))))
@@ -138,12 +138,12 @@ pub record Opened {G R : Type 0} (s : Scaled G R) (rules : List Record) (rows : 
   pub exact : Exact s rules' rows'
 
 module _ {G R : Type 0} (s : Scaled G R) (rules : List Record) (rows : List R) where
-  pub opened-tables : (rules' : List Record) (rows' : List R) → rules' ≡ replicate (count_of rules rows) empty_record ++ drop (count_of rules rows) rules → rows' ≡ replicate (count_of rules rows) (s.row_of s.order.bottom) ++ drop (count_of rules rows) rows → Opened s rules rows rules' rows'
-  opened-tables rules' rows' p q =
+  pub opened_tables : (rules' : List Record) (rows' : List R) → rules' ≡ replicate (count_of rules rows) empty_record ++ drop (count_of rules rows) rules → rows' ≡ replicate (count_of rules rows) (s.row_of s.order.bottom) ++ drop (count_of rules rows) rows → Opened s rules rows rules' rows'
+  opened_tables rules' rows' p q =
       let n = count_of rules rows in
       let x = s.row_of s.order.bottom in
-      let j : length rules' ≡ length rules = ap (λ l. length l) p ∙ fill-length n empty_record rules (omega arith) in
-      let k : length rows' ≡ length rows = ap (λ l. length l) q ∙ fill-length n x rows (omega arith) in
+      let j : length rules' ≡ length rules = ap (λ l. length l) p ∙ fill_length n empty_record rules (omega arith) in
+      let k : length rows' ≡ length rows = ap (λ l. length l) q ∙ fill_length n x rows (omega arith) in
       let m : count_of rules' rows' ≡ n = ap₂ (λ u v. min (min u v) 1024) j k in
       let places : places_of s rules' rows' ≡ replicate n None = ap₂ (places_of s) p q ∙ places-opened s rules rows x in
       record {
@@ -158,8 +158,8 @@ module _ {G R : Type 0} (s : Scaled G R) (rules : List Record) (rows : List R) w
       }
 
   -- and after what leaves them as Stays says
-  pub opened-then : (b : List Record) (y : List R) (c : List Record) (z : List R) → Opened s rules rows b y → Stays s b y c z → Opened s rules rows c z
-  opened-then b y c z p q =
+  pub opened_then : (b : List Record) (y : List R) (c : List Record) (z : List R) → Opened s rules rows b y → Stays s b y c z → Opened s rules rows c z
+  opened_then b y c z p q =
       let n : count_of b y ≡ count_of rules rows = ap₂ (λ k m. min (min k m) 1024) p.rules_length p.rows_length in
       record {
         rules_length = q.rules_length ∙ p.rules_length;

@@ -5,13 +5,13 @@ use Rattle.scale.specs.Laws.{Scaled}
 use Rattle.rulebase.specs.declared.rule.Rule.{Rule as Record}
 use Rattle.rulebase.specs.Tables.{count_of, places_of, place_of, record_of, row_for}
 use Rattle.rulebase.specs.Runs.{Stays}
-use Rattle.rulebase.proofs.Places.{take-of-set, set-places}
+use Rattle.rulebase.proofs.Places.{take_of_set, set-places}
 
-drop-of-set : {A : Type 0} (n : ℕ) (xs : List A) (i : ℕ) (y : A) → i < n → drop n (set xs i y) ≡ drop n xs
-drop-of-set zero xs i y l = absurd (omega arith)
-drop-of-set (suc n) [] i y l = refl
-drop-of-set (suc n) (x ∷ xs) zero y l = refl
-drop-of-set (suc n) (x ∷ xs) (suc i) y l = drop-of-set n xs i y (omega arith)
+drop_of_set : {A : Type 0} (n : ℕ) (xs : List A) (i : ℕ) (y : A) → i < n → drop n (set xs i y) ≡ drop n xs
+drop_of_set zero xs i y l = absurd (omega arith)
+drop_of_set (suc n) [] i y l = refl
+drop_of_set (suc n) (x ∷ xs) zero y l = refl
+drop_of_set (suc n) (x ∷ xs) (suc i) y l = drop_of_set n xs i y (omega arith)
 
 module _ {G R : Type 0} (s : Scaled G R) (rules : List Record) (rows : List R) where
   pub stays_same : Stays s rules rows rules rows
@@ -22,24 +22,24 @@ module _ {G R : Type 0} (s : Scaled G R) (rules : List Record) (rows : List R) w
   stays-set k r x l is row = record {
     rules_length = length-set rules k r;
     rows_length = length-set rows k x;
-    rules_rest = drop-of-set (count_of rules rows) rules k r l;
-    rows_rest = drop-of-set (count_of rules rows) rows k x l;
+    rules_rest = drop_of_set (count_of rules rows) rules k r l;
+    rows_rest = drop_of_set (count_of rules rows) rows k x l;
     exact = λ e.
         let n : count_of (set rules k r) (set rows k x) ≡ count_of rules rows = ap₂ (λ a b. min (min a b) 1024) (length-set rules k r) (length-set rows k x) in
         let p = set-places s rules rows k r x in
         record {
           records =
-              ap (λ m. take m (set rules k r)) n ∙ take-of-set (count_of rules rows) rules k r ∙ ap₂ (λ (l : List Record) (q : Record). set l k q) e.records is
+              ap (λ m. take m (set rules k r)) n ∙ take_of_set (count_of rules rows) rules k r ∙ ap₂ (λ (l : List Record) (q : Record). set l k q) e.records is
               ∙ sym (ap (map record_of) p ∙ map-set record_of (places_of s rules rows) k (place_of s r x));
           grades =
-              ap (λ m. take m (set rows k x)) n ∙ take-of-set (count_of rules rows) rows k x ∙ ap₂ (λ (l : List R) (q : R). set l k q) e.grades row
+              ap (λ m. take m (set rows k x)) n ∙ take_of_set (count_of rules rows) rows k x ∙ ap₂ (λ (l : List R) (q : R). set l k q) e.grades row
               ∙ sym (ap (map (row_for s)) p ∙ map-set (row_for s) (places_of s rules rows) k (place_of s r x));
         };
   }
 
 -- tables that are the same
-pub stays-as : {G R : Type 0} (s : Scaled G R) (rules : List Record) (rows : List R) {a b : List Record} {x y : List R} → b ≡ a → y ≡ x → Stays s rules rows a x → Stays s rules rows b y
-stays-as s rules rows {a} {b} {x} {y} p q h = subst (λ (l : List Record). Stays s rules rows l y) (sym p) (subst (Stays s rules rows a) (sym q) h)
+pub stays_as : {G R : Type 0} (s : Scaled G R) (rules : List Record) (rows : List R) {a b : List Record} {x y : List R} → b ≡ a → y ≡ x → Stays s rules rows a x → Stays s rules rows b y
+stays_as s rules rows {a} {b} {x} {y} p q h = subst (λ (l : List Record). Stays s rules rows l y) (sym p) (subst (Stays s rules rows a) (sym q) h)
 
 pub stays_then : {G R : Type 0} (s : Scaled G R) (a : List Record) (x : List R) (b : List Record) (y : List R) (c : List Record) (z : List R) → Stays s a x b y → Stays s b y c z → Stays s a x c z
 stays_then s a x b y c z p q =

@@ -14,31 +14,31 @@ left-none [] (suc k) e = refl
 left-none (x ∷ xs) zero e = absurd (none-some x (sym e))
 left-none (x ∷ xs) (suc k) e = left-none xs k e
 
-pub left-more : {A : Type 0} (xs : List A) (k : ℕ) (a : A) → nth xs k ≡ Some a → drop k xs ≡ a ∷ drop (suc k) xs
-left-more [] k a e = absurd (none-some a e)
-left-more (x ∷ xs) zero a e = cc
-left-more (x ∷ xs) (suc k) a e = left-more xs k a e
+pub left_more : {A : Type 0} (xs : List A) (k : ℕ) (a : A) → nth xs k ≡ Some a → drop k xs ≡ a ∷ drop (suc k) xs
+left_more [] k a e = absurd (none-some a e)
+left_more (x ∷ xs) zero a e = cc
+left_more (x ∷ xs) (suc k) a e = left_more xs k a e
 
-pub take-nothing : {A : Type 0} (n : ℕ) → take {A = A} n [] ≡ []
-take-nothing zero = refl
-take-nothing (suc n) = refl
+pub take_nothing : {A : Type 0} (n : ℕ) → take {A = A} n [] ≡ []
+take_nothing zero = refl
+take_nothing (suc n) = refl
 
-pub nth-among : {A : Type 0} (xs : List A) (k : ℕ) (a : A) → nth xs k ≡ Some a → Among a xs
-nth-among [] k a e = absurd (none-some a e)
-nth-among (x ∷ xs) zero a e = inl (cc)
-nth-among (x ∷ xs) (suc k) a e = inr (nth-among xs k a e)
+pub nth_among : {A : Type 0} (xs : List A) (k : ℕ) (a : A) → nth xs k ≡ Some a → Among a xs
+nth_among [] k a e = absurd (none-some a e)
+nth_among (x ∷ xs) zero a e = inl (cc)
+nth_among (x ∷ xs) (suc k) a e = inr (nth_among xs k a e)
 
 -- nothing comes after the taken part: it has all
-pub all-taken : {A : Type 0} (xs : List A) (f : ℕ) (a : A) → nth xs (length (take f xs)) ≡ None → Among a xs → Among a (take f xs)
-all-taken [] f a e i = absurd i
-all-taken (x ∷ xs) zero a e i = absurd (none-some x (sym e))
-all-taken (x ∷ xs) (suc f) a e (inl d) = inl d
-all-taken (x ∷ xs) (suc f) a e (inr i) = inr (all-taken xs f a e i)
+pub all_taken : {A : Type 0} (xs : List A) (f : ℕ) (a : A) → nth xs (length (take f xs)) ≡ None → Among a xs → Among a (take f xs)
+all_taken [] f a e i = absurd i
+all_taken (x ∷ xs) zero a e i = absurd (none-some x (sym e))
+all_taken (x ∷ xs) (suc f) a e (inl d) = inl d
+all_taken (x ∷ xs) (suc f) a e (inr i) = inr (all_taken xs f a e i)
 
 -- in a rising list, what comes after the taken part is not in it
 pub not_taken : (xs : List ℕ) (f a : ℕ) → Rising xs → nth xs (length (take f xs)) ≡ Some a → Among a (take f xs) → ⊥
 not_taken [] zero a c e i = i
 not_taken [] (suc f) a c e i = i
 not_taken (x ∷ xs) zero a c e i = i
-not_taken (x ∷ xs) (suc f) a c e (inl d) = omega (arith, c.0 a (nth-among xs (length (take f xs)) a e))
+not_taken (x ∷ xs) (suc f) a c e (inl d) = omega (arith, c.0 a (nth_among xs (length (take f xs)) a e))
 not_taken (x ∷ xs) (suc f) a c e (inr i) = not_taken xs f a c.1 e i

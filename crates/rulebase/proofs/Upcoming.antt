@@ -4,8 +4,8 @@ use Rattle.std.proofs.lemmas.List.{length_push}
 use Rattle.std.proofs.lemmas.Bool.{cases_lt}
 use Rattle.scale.specs.Laws.{Order}
 use Rattle.semantics.specs.Rules.{Rule, stable, stable_below, stable_sets}
-use Rattle.semantics.proofs.Sets.{false-from}
-use Rattle.semantics.proofs.Objections.{stable-is-below}
+use Rattle.semantics.proofs.Sets.{false_from}
+use Rattle.semantics.proofs.Objections.{stable_is_below}
 use Rattle.search.specs.Admissible.{NoSuch, Least}
 use Rattle.rulebase.specs.Reference.{nth}
 
@@ -50,33 +50,33 @@ module _ {G : Type 0} (o : Order G) (w : ℕ) (P : List (Rule G)) where
 
   module _ (n : ℕ) where
     module _ (a : ℕ) (f : Least (From n) a) where
-      pub found-list : stable_below o w P (suc a) ≡ stable_below o w P n ++ a ∷ []
+      pub found_list : stable_below o w P (suc a) ≡ stable_below o w P n ++ a ∷ []
       unfolding stable_below
-      found-list =
+      found_list =
           ap₂ (λ (xs : List ℕ) (b : Bool). xs ++ cond b (a ∷ []) [])
-          (skipped n a f.passes.1 (λ b i j. false-from (stable o w P b) (λ t. let l = f.least b (t, i) in absurd (omega arith))))
+          (skipped n a f.passes.1 (λ b i j. false_from (stable o w P b) (λ t. let l = f.least b (t, i) in absurd (omega arith))))
           f.passes.0
 
       -- the least stable set from n on is the next one of the list
       pub found-next : nth (stable_sets o w P) (length (stable_below o w P n)) ≡ Some a
       unfolding stable_sets
       found-next =
-          let low = stable-is-below o w P a f.passes.0 in
+          let low = stable_is_below o w P a f.passes.0 in
           let p = fronted (suc a) (2 ^ w) (omega arith) in
           ap (λ (xs : List ℕ). nth xs (length (stable_below o w P n)))
-          (p.1 ∙ ap (λ (xs : List ℕ). xs ++ p.0) found-list ∙ append_assoc (stable_below o w P n) (a ∷ []) p.0)
+          (p.1 ∙ ap (λ (xs : List ℕ). xs ++ p.0) found_list ∙ append_assoc (stable_below o w P n) (a ∷ []) p.0)
           ∙ nth-next (stable_below o w P n) p.0 a
 
       pub found-count : length (stable_below o w P (suc a)) ≡ suc (length (stable_below o w P n))
-      found-count = let e = ap length found-list ∙ length_push (stable_below o w P n) a in omega arith
+      found-count = let e = ap length found_list ∙ length_push (stable_below o w P n) a in omega arith
 
     module _ (none : NoSuch (From n)) where
       -- with none left, all have been passed
       pub passed-all : stable_below o w P (2 ^ w) ≡ stable_below o w P n
       passed-all =
           ⊎_elim
-          (λ (h : n < 2 ^ w). skipped n (2 ^ w) (omega arith) (λ b i j. false-from (stable o w P b) (λ t. none b (t, i))))
-          (λ (h : 2 ^ w ≤ n). sym (skipped (2 ^ w) n h (λ b i j. false-from (stable o w P b) (λ t. let l = stable-is-below o w P b t in absurd (omega arith)))))
+          (λ (h : n < 2 ^ w). skipped n (2 ^ w) (omega arith) (λ b i j. false_from (stable o w P b) (λ t. none b (t, i))))
+          (λ (h : 2 ^ w ≤ n). sym (skipped (2 ^ w) n h (λ b i j. false_from (stable o w P b) (λ t. let l = stable_is_below o w P b t in absurd (omega arith)))))
           (cases_lt n (2 ^ w))
 
       pub none-next : nth (stable_sets o w P) (length (stable_below o w P n)) ≡ None
@@ -84,6 +84,6 @@ module _ {G : Type 0} (o : Order G) (w : ℕ) (P : List (Rule G)) where
       none-next = ap (λ (xs : List ℕ). nth xs (length (stable_below o w P n))) passed-all ∙ nth_end (stable_below o w P n)
 
     -- either way, what a search from n on finds is the next one
-    pub next-is : (r : Option ℕ) → MatchOption r (NoSuch (From n)) (Least (From n)) → r ≡ nth (stable_sets o w P) (length (stable_below o w P n))
-    next-is None h = sym (none-next h)
-    next-is (Some a) h = sym (found-next a h)
+    pub next_is : (r : Option ℕ) → MatchOption r (NoSuch (From n)) (Least (From n)) → r ≡ nth (stable_sets o w P) (length (stable_below o w P n))
+    next_is None h = sym (none-next h)
+    next_is (Some a) h = sym (found-next a h)

@@ -58,11 +58,11 @@ from_one [] n h e = absurd (omega arith)
 from_one (a ∷ []) n h e = ap (λ (m : ℕ). m ∷ []) (omega arith) ∙ sym (decimal_digit n (omega arith))
 from_one (a ∷ b ∷ bs) n h e = absurd (omega arith)
 
-pub from-two : (bs : List ℕ) (n : ℕ) → Two bs → n ≡ (get_or bs 0 0 - 48) * 10 + (get_or bs 1 0 - 48) → bs ≡ decimal n
-from-two [] n h e = absurd (omega arith)
-from-two (a ∷ []) n h e = absurd (omega arith)
-from-two (a ∷ b ∷ []) n h e =
+pub from_two : (bs : List ℕ) (n : ℕ) → Two bs → n ≡ (get_or bs 0 0 - 48) * 10 + (get_or bs 1 0 - 48) → bs ≡ decimal n
+from_two [] n h e = absurd (omega arith)
+from_two (a ∷ []) n h e = absurd (omega arith)
+from_two (a ∷ b ∷ []) n h e =
     let x : a ≡ 48 + n / 10 = omega arith in
     let y : b ≡ 48 + n % 10 = omega arith in
     (λ i. x i ∷ y i ∷ []) ∙ sym (two_digits n (omega arith) (omega arith))
-from-two (a ∷ b ∷ d ∷ bs) n h e = absurd (omega arith)
+from_two (a ∷ b ∷ d ∷ bs) n h e = absurd (omega arith)

@@ -15,12 +15,12 @@ module _ {G H : Type 0} (a : Order G) (b : Order H) where
   pair_at_most x y = a.at_most x.first y.first && (not (a.at_most y.first x.first) || b.at_most x.second y.second)
 
   -- of two pairs in order the first grades are in order
-  pub first-at_most : (x y : Pair G H) → pair_at_most x y ≡ true → a.at_most x.first y.first ≡ true
-  first-at_most x y p = (and_parts _ _ p).0
+  pub first_at_most : (x y : Pair G H) → pair_at_most x y ≡ true → a.at_most x.first y.first ≡ true
+  first_at_most x y p = (and_parts _ _ p).0
 
   -- and the second ones, where the first ones are so both ways
-  pub second-at_most : (x y : Pair G H) → pair_at_most x y ≡ true → a.at_most y.first x.first ≡ true → b.at_most x.second y.second ≡ true
-  second-at_most x y p h = ⊎_elim (λ n. absurd (both_ways _ (not-true _ n) h)) (λ s. s) (or_cases _ _ (and_parts _ _ p).1)
+  pub second_at_most : (x y : Pair G H) → pair_at_most x y ≡ true → a.at_most y.first x.first ≡ true → b.at_most x.second y.second ≡ true
+  second_at_most x y p h = ⊎_elim (λ n. absurd (both_ways _ (not-true _ n) h)) (λ s. s) (or_cases _ _ (and_parts _ _ p).1)
 
   -- and back
   pub pair_at_most_lem : (x y : Pair G H) → a.at_most x.first y.first ≡ true → (a.at_most y.first x.first ≡ true → b.at_most x.second y.second ≡ true) → pair_at_most x y ≡ true
@@ -36,17 +36,17 @@ module _ {G H : Type 0} (a : Order G) (b : Order H) where
 
   pub pair-transitive : (x y z : Pair G H) → pair_at_most x y ≡ true → pair_at_most y z ≡ true → pair_at_most x z ≡ true
   pair-transitive x y z p q =
-      let p1 = first-at_most x y p in
-      let q1 = first-at_most y z q in
+      let p1 = first_at_most x y p in
+      let q1 = first_at_most y z q in
       pair_at_most_lem x z (a.transitive _ _ _ p1 q1)
-      (λ h. b.transitive _ _ _ (second-at_most x y p (a.transitive _ _ _ q1 h)) (second-at_most y z q (a.transitive _ _ _ h p1)))
+      (λ h. b.transitive _ _ _ (second_at_most x y p (a.transitive _ _ _ q1 h)) (second_at_most y z q (a.transitive _ _ _ h p1)))
 
   pub pair-antisymmetric : (x y : Pair G H) → pair_at_most x y ≡ true → pair_at_most y x ≡ true → x ≡ y
   pair-antisymmetric x y p q =
-      let p1 = first-at_most x y p in
-      let q1 = first-at_most y x q in
+      let p1 = first_at_most x y p in
+      let q1 = first_at_most y x q in
       let e = a.antisymmetric _ _ p1 q1 in
-      let f = b.antisymmetric _ _ (second-at_most x y p q1) (second-at_most y x q p1) in
+      let f = b.antisymmetric _ _ (second_at_most x y p q1) (second_at_most y x q p1) in
       λ i. pair (e i) (f i)
 
   -- the order of pairs

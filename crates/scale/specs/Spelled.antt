@@ -22,15 +22,15 @@ abbrev pub word_back : List ℕ → Word
 word_back t = cond (slice_index t 0 == 110) Nil (cond (slice_index t 0 == 115) Sure (cond (slice_index t 3 == 110) Faint (cond (slice_index t 3 == 114) Fair Firm)))
 
 -- no two words have the same text
-pub word_back-text : (w : Word) → word_back (word_text w) ≡ w
-word_back-text Nil = refl
-word_back-text Faint = refl
-word_back-text Fair = refl
-word_back-text Firm = refl
-word_back-text Sure = refl
+pub word_back_text : (w : Word) → word_back (word_text w) ≡ w
+word_back_text Nil = refl
+word_back_text Faint = refl
+word_back_text Fair = refl
+word_back_text Firm = refl
+word_back_text Sure = refl
 
 pub same_word : (v w : Word) → word_text v ≡ word_text w → v ≡ w
-same_word v w e = sym (word_back-text v) ∙ ap word_back e ∙ word_back-text w
+same_word v w e = sym (word_back_text v) ∙ ap word_back e ∙ word_back_text w
 
 -- a text has 1 to 16 bytes
 pub word_some : (w : Word) → 1 ≤ length (word_text w)
@@ -40,12 +40,12 @@ word_some Fair = lit≤ tt
 word_some Firm = lit≤ tt
 word_some Sure = lit≤ tt
 
-pub word-short : (w : Word) → length (word_text w) ≤ 16
-word-short Nil = lit≤ tt
-word-short Faint = lit≤ tt
-word-short Fair = lit≤ tt
-word-short Firm = lit≤ tt
-word-short Sure = lit≤ tt
+pub word_short : (w : Word) → length (word_text w) ≤ 16
+word_short Nil = lit≤ tt
+word_short Faint = lit≤ tt
+word_short Fair = lit≤ tt
+word_short Firm = lit≤ tt
+word_short Sure = lit≤ tt
 
 -- every byte is a small letter
 abbrev pub letters : List ℕ → Bool
@@ -60,12 +60,12 @@ letters-plain (b ∷ bs) e =
     (inl (leb-true 97 b ends.0, leb-true b 122 ends.1), letters-plain bs parts.1)
 
 -- a text has plain bytes
-pub word-plain : (w : Word) → AllByRecursion Plain (word_text w)
-word-plain Nil = letters-plain (codes "none") refl
-word-plain Faint = letters-plain (codes "faint") refl
-word-plain Fair = letters-plain (codes "fair") refl
-word-plain Firm = letters-plain (codes "firm") refl
-word-plain Sure = letters-plain (codes "sure") refl
+pub word_plain : (w : Word) → AllByRecursion Plain (word_text w)
+word_plain Nil = letters-plain (codes "none") refl
+word_plain Faint = letters-plain (codes "faint") refl
+word_plain Fair = letters-plain (codes "fair") refl
+word_plain Firm = letters-plain (codes "firm") refl
+word_plain Sure = letters-plain (codes "sure") refl
 
 -- the words with their texts; bytes are parsed by comparing them with the five texts
 abbrev pub word_texts : Texts Word
@@ -73,8 +73,8 @@ word_texts = record {
   of = word_text;
   parse = matching word_text word_at 5;
   some = word_some;
-  short = word-short;
-  plain = word-plain;
+  short = word_short;
+  plain = word_plain;
   reads = λ w. matching-reads word_text word_at same_word 5 (rank w) w (omega (arith, rank-le w)) (word_at-rank w);
   only = matching-only word_text word_at 5;
 }

@@ -5,26 +5,26 @@ use Rattle.std.proofs.lemmas.Bool.{cases_order}
 use Rattle.semantics.specs.Sets.{width, has, adding, others, Out}
 use Rattle.semantics.specs.declared.rule.PlainRule.{PlainRule}
 use Rattle.semantics.proofs.Sets.{has-below, agree-lt}
-use Rattle.semantics.proofs.Members.{option-weaker}
+use Rattle.semantics.proofs.Members.{option_weaker}
 use Rattle.search.specs.Admissible.{Fitting, Least, NoSuch, Stable}
 use Rattle.search.specs.Listing.{Later, Branch}
-use Rattle.search.proofs.Forced.{fits-any}
-use Rattle.search.proofs.Pivots.{Pivot, pivot, wanted-turns, wanted-agrees, agrees-wanted}
+use Rattle.search.proofs.Forced.{fits_any}
+use Rattle.search.proofs.Pivots.{Pivot, pivot, wanted_turns, wanted_agrees, agrees_wanted}
 use Rattle.search.proofs.Stables.{stable-admissible, admissible-stable}
 
 -- one property in place of another that the same numbers have
 carried : (P Q : ℕ → Type 0) → ((a : ℕ) → P a → Q a) → ((a : ℕ) → Q a → P a) → (o : Option ℕ) → MatchOption o (NoSuch P) (Least P) → MatchOption o (NoSuch Q) (Least Q)
 carried P Q to from o h =
-    option-weaker o (NoSuch P) (NoSuch Q) (Least P) (Least Q) h
+    option_weaker o (NoSuch P) (NoSuch Q) (Least P) (Least Q) h
     (λ none b q. none b (from b q))
     (λ a f. record { passes = to a f.passes; least = λ b q. f.least b (from b q) })
 
 module _ (rs : List PlainRule) where
-  pub first-listed : (o : Option ℕ) → MatchOption o (NoSuch (Fitting 0 rs 0 0)) (Least (Fitting 0 rs 0 0)) → MatchOption o (NoSuch (Stable rs)) (Least (Stable rs))
-  first-listed =
+  pub first_listed : (o : Option ℕ) → MatchOption o (NoSuch (Fitting 0 rs 0 0)) (Least (Fitting 0 rs 0 0)) → MatchOption o (NoSuch (Stable rs)) (Least (Stable rs))
+  first_listed =
       carried (Fitting 0 rs 0 0) (Stable rs)
       (λ a f. admissible-stable rs a f.0)
-      (λ a t. (stable-admissible rs a t, fits-any a))
+      (λ a t. (stable-admissible rs a t, fits_any a))
 
   module _ (set j : ℕ) where
     module _ (higher : ℕ) (low : set < 2 ^ width) (up : (x : ℕ) → Decides (has higher x) ((j < x) × (x < width))) where
@@ -36,32 +36,32 @@ module _ (rs : List PlainRule) where
           carried Chosen (Branch rs set j)
           (λ a f. record {
             stands = admissible-stable rs a f.0;
-            turns = wanted-turns width set j higher low up a f.1;
-            agrees = wanted-agrees width set j higher low up a f.0.below f.1;
+            turns = wanted_turns width set j higher low up a f.1;
+            agrees = wanted_agrees width set j higher low up a f.0.below f.1;
           })
-          (λ a b. (stable-admissible rs a b.stands, agrees-wanted width set j higher low up a b.turns b.agrees))
+          (λ a b. (stable-admissible rs a b.stands, agrees_wanted width set j higher low up a b.turns b.agrees))
 
-    branch-later : (A : ℕ) → Out j set → Branch rs set j A → Later rs set A
-    branch-later A o b = (b.stands, agree-lt j set A b.agrees o b.turns)
+    branch_later : (A : ℕ) → Out j set → Branch rs set j A → Later rs set A
+    branch_later A o b = (b.stands, agree-lt j set A b.agrees o b.turns)
 
   module _ (set : ℕ) where
     -- no stable set branches off at an atom below n
     abbrev pub Passed : ℕ → Type 0
     Passed n = (j : ℕ) → j < n → Out j set → NoSuch (Branch rs set j)
 
-    pub passed-more : (n : ℕ) → Passed n → (Out n set → NoSuch (Branch rs set n)) → Passed (n + 1)
-    passed-more = below_more (λ j. Out j set → NoSuch (Branch rs set j))
+    pub passed_more : (n : ℕ) → Passed n → (Out n set → NoSuch (Branch rs set n)) → Passed (n + 1)
+    passed_more = below_more (λ j. Out j set → NoSuch (Branch rs set j))
 
     -- past the last atom nothing is left
-    pub later-none : (n : ℕ) → Passed n → width ≤ n → NoSuch (Later rs set)
-    later-none n passed l B (t, h) =
+    pub later_none : (n : ℕ) → Passed n → width ≤ n → NoSuch (Later rs set)
+    later_none n passed l B (t, h) =
         let p = pivot set B h in
         let k = has-below width B p.atom (stable-admissible rs B t).below p.turns in
         passed p.atom (omega arith) p.lacks B (record { stands = t; turns = p.turns; agrees = p.agrees })
 
     -- the first atom at which one branches off gives the least
-    pub later-found : (n a : ℕ) → Passed n → Out n set → Least (Branch rs set n) a → Least (Later rs set) a
-    later-found n a passed o f = record { passes = branch-later set n a o f.passes; least = least }
+    pub later_found : (n a : ℕ) → Passed n → Out n set → Least (Branch rs set n) a → Least (Later rs set) a
+    later_found n a passed o f = record { passes = branch_later set n a o f.passes; least = least }
       where
         -- a branch at a greater atom leads to a greater set
         higher : (B : ℕ) (p : Pivot set B) → n < p.atom → a ≤ B

@@ -7,9 +7,9 @@ use Rattle.semantics.specs.Plain.{by_rank, held, truth}
 use Rattle.semantics.specs.Statements.{Fits, Graded}
 use Rattle.semantics.specs.declared.rule.PlainRule.{PlainRule}
 use Rattle.search.specs.Admissible.{Admissible, Stable}
-use Rattle.semantics.proofs.Alike.{Alike, alike-sym, alike-weigh, alike-reduct, alike-founded, alike-unbroken}
+use Rattle.semantics.proofs.Alike.{Alike, alike_sym, alike_weigh, alike_reduct, alike_founded, alike_unbroken}
 use Rattle.semantics.proofs.Plain.{graded-out, graded-fits}
-use Rattle.semantics.proofs.Stable.{stable-from, stable-out}
+use Rattle.semantics.proofs.Stable.{stable_from, stable-out}
 
 module _ (rs : List PlainRule) where
   held_fits : Fits width (held rs)
@@ -23,21 +23,21 @@ module _ (rs : List PlainRule) where
 
   module _ (A : ℕ) where
     -- the reducts of the rules with their ranks, and of the rules held true, differ in grades alone
-    reducts-alike : Alike (reduct A (by_rank rs)) (reduct A (held rs))
-    reducts-alike = alike-reduct A (by_rank rs) (held rs) (alike-weigh (λ (x : PlainRule). x.rank) (λ (x : PlainRule). true) rs)
+    reducts_alike : Alike (reduct A (by_rank rs)) (reduct A (held rs))
+    reducts_alike = alike_reduct A (by_rank rs) (held rs) (alike_weigh (λ (x : PlainRule). x.rank) (λ (x : PlainRule). true) rs)
 
     pub stable-admissible : Stable rs A → Admissible width 0 (by_rank rs) A
     stable-admissible t =
         let s = stable-out truth width (held rs) held_fits held-graded A t in
-        let kept = alike-unbroken A (reduct A (held rs)) (reduct A (by_rank rs)) (alike-sym (reduct A (by_rank rs)) (reduct A (held rs)) reducts-alike) s.2 in
+        let kept = alike_unbroken A (reduct A (held rs)) (reduct A (by_rank rs)) (alike_sym (reduct A (by_rank rs)) (reduct A (held rs)) reducts_alike) s.2 in
         record {
           below = s.0;
-          founds = alike-founded width (reduct A (by_rank rs)) (reduct A (held rs)) reducts-alike A ∙ s.1;
+          founds = alike_founded width (reduct A (by_rank rs)) (reduct A (held rs)) reducts_alike A ∙ s.1;
           keeps = λ r i l. kept r i;
         }
 
     pub admissible-stable : Admissible width 0 (by_rank rs) A → Stable rs A
     admissible-stable a =
-        stable-from truth width (held rs) held_fits held-graded A a.below
-        (sym (alike-founded width (reduct A (by_rank rs)) (reduct A (held rs)) reducts-alike A) ∙ a.founds)
-        (alike-unbroken A (reduct A (by_rank rs)) (reduct A (held rs)) reducts-alike (λ r i. a.keeps r i (omega arith)))
+        stable_from truth width (held rs) held_fits held-graded A a.below
+        (sym (alike_founded width (reduct A (by_rank rs)) (reduct A (held rs)) reducts_alike A) ∙ a.founds)
+        (alike_unbroken A (reduct A (by_rank rs)) (reduct A (held rs)) reducts_alike (λ r i. a.keeps r i (omega arith)))

@@ -8,10 +8,10 @@ use Rattle.semantics.proofs.Count.{at_last}
 
 module _ {G : Type 0} (o : Order G) (h : G → Bool) (cut : Cut o h) where
   module _ (keep : ℕ → Bool) (f : ℕ → G) where
-    pub least-in : (n : ℕ) → ((A : ℕ) → A < n → keep A ≡ true → h (f A) ≡ true) → h (least_below o n keep f) ≡ true
+    pub least_in : (n : ℕ) → ((A : ℕ) → A < n → keep A ≡ true → h (f A) ≡ true) → h (least_below o n keep f) ≡ true
     unfolding least_below
-    least-in zero k = cut.holds_top
-    least-in (suc n) k = go (keep n) refl (least-in n (λ A l. k A (omega arith)))
+    least_in zero k = cut.holds_top
+    least_in (suc n) k = go (keep n) refl (least_in n (λ A l. k A (omega arith)))
       where
         rest : G
         rest = least_below o n keep f
@@ -20,9 +20,9 @@ module _ {G : Type 0} (o : Order G) (h : G → Bool) (cut : Cut o h) where
         go true e ih = cut-lesser o h cut (f n) rest ∙ and_from (h (f n)) (h rest) (k n (omega arith) e) ih
         go false e ih = ih
 
-    last-two : (n : ℕ) → h (least_below o (suc n) keep f) ≡ true → (keep n ≡ true → h (f n) ≡ true) × (h (least_below o n keep f) ≡ true)
+    last_two : (n : ℕ) → h (least_below o (suc n) keep f) ≡ true → (keep n ≡ true → h (f n) ≡ true) × (h (least_below o n keep f) ≡ true)
     unfolding least_below
-    last-two n = go (keep n) refl
+    last_two n = go (keep n) refl
       where
         rest : G
         rest = least_below o n keep f
@@ -34,13 +34,13 @@ module _ {G : Type 0} (o : Order G) (h : G → Bool) (cut : Cut o h) where
     pub least-out : (n : ℕ) → h (least_below o n keep f) ≡ true → (A : ℕ) → A < n → keep A ≡ true → h (f A) ≡ true
     least-out zero t A l k = absurd (omega arith)
     least-out (suc n) t A l k =
-        let p = last-two n t in
+        let p = last_two n t in
         ⊎_elim (λ (e : A ≡ n). ap (λ B. h (f B)) e ∙ p.0 (ap keep (sym e) ∙ k)) (λ m. least-out n p.1 A m k) (at_last A n l)
 
-    pub least-miss : (n : ℕ) → h (least_below o n keep f) ≡ false → (A : ℕ) × (A < n) × (keep A ≡ true) × (h (f A) ≡ false)
+    pub least_miss : (n : ℕ) → h (least_below o n keep f) ≡ false → (A : ℕ) × (A < n) × (keep A ≡ true) × (h (f A) ≡ false)
     unfolding least_below
-    least-miss zero t = absurd (true≢false (sym cut.holds_top ∙ t))
-    least-miss (suc n) t = go (keep n) refl t (least-miss n)
+    least_miss zero t = absurd (true≢false (sym cut.holds_top ∙ t))
+    least_miss (suc n) t = go (keep n) refl t (least_miss n)
       where
         rest : G
         rest = least_below o n keep f
@@ -56,10 +56,10 @@ module _ {G : Type 0} (o : Order G) (h : G → Bool) (cut : Cut o h) where
         go false e u ih = more (ih u)
 
   module _ (keep : Rule G → Bool) (f : Rule G → G) where
-    pub greatest-in : (P : List (Rule G)) (r : Rule G) → Among r P → keep r ≡ true → h (f r) ≡ true → h (greatest_of o keep f P) ≡ true
+    pub greatest_in : (P : List (Rule G)) (r : Rule G) → Among r P → keep r ≡ true → h (f r) ≡ true → h (greatest_of o keep f P) ≡ true
     unfolding greatest_of
-    greatest-in [] r i k t = absurd i
-    greatest-in (s ∷ P) r (inl e) k t = go (keep s) refl
+    greatest_in [] r i k t = absurd i
+    greatest_in (s ∷ P) r (inl e) k t = go (keep s) refl
       where
         rest : G
         rest = greatest_of o keep f P
@@ -67,7 +67,7 @@ module _ {G : Type 0} (o : Order G) (h : G → Bool) (cut : Cut o h) where
         go : (b : Bool) → keep s ≡ b → h (cond b (greater o (f s) rest) rest) ≡ true
         go true d = cut-greater o h cut (f s) rest ∙ or_left (h (f s)) (h rest) (ap (λ x. h (f x)) (sym e) ∙ t)
         go false d = absurd (true≢false (sym k ∙ (ap keep e ∙ d)))
-    greatest-in (s ∷ P) r (inr i) k t = go (keep s) (greatest-in P r i k t)
+    greatest_in (s ∷ P) r (inr i) k t = go (keep s) (greatest_in P r i k t)
       where
         rest : G
         rest = greatest_of o keep f P

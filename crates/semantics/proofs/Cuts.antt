@@ -4,21 +4,21 @@
 use Rattle.std.proofs.Common.{◌≡◌, Bool, true, false, cond, not, ◌&&◌, ◌||◌, sym, refl, ap, ◌∙◌, ⊎_elim, true≢false}
 use mathlib.Core.Bool.{false≢true}
 use Rattle.scale.specs.Laws.{Order, greater, lesser, above}
-use Rattle.semantics.proofs.Sets.{sub-and-at}
+use Rattle.semantics.proofs.Sets.{sub_and_at}
 
 pub record Cut {G : Type 0} (o : Order G) (h : G → Bool) : Type 0 where
   pub out : h o.bottom ≡ false
   pub holds_top : h o.top ≡ true
   pub up : (a b : G) → o.at_most a b ≡ true → h a ≡ true → h b ≡ true
 
-or-high : (a b : Bool) → (a ≡ true → b ≡ true) → b ≡ (a || b)
-or-high true b f = f refl
-or-high false b f = refl
+or_high : (a b : Bool) → (a ≡ true → b ≡ true) → b ≡ (a || b)
+or_high true b f = f refl
+or_high false b f = refl
 
-or-low : (a b : Bool) → (b ≡ true → a ≡ true) → a ≡ (a || b)
-or-low true b f = refl
-or-low false true f = f refl
-or-low false false f = refl
+or_low : (a b : Bool) → (b ≡ true → a ≡ true) → a ≡ (a || b)
+or_low true b f = refl
+or_low false true f = f refl
+or_low false false f = refl
 
 and_high : (a b : Bool) → (b ≡ true → a ≡ true) → b ≡ (a && b)
 and_high true b f = refl
@@ -38,15 +38,15 @@ module _ {G : Type 0} (o : Order G) where
     cut-greater a b = go (o.at_most a b) refl
       where
         go : (t : Bool) → o.at_most a b ≡ t → h (cond t b a) ≡ (h a || h b)
-        go true e = or-high (h a) (h b) (cut.up a b e)
-        go false e = or-low (h a) (h b) (cut.up b a (other_way a b e))
+        go true e = or_high (h a) (h b) (cut.up a b e)
+        go false e = or_low (h a) (h b) (cut.up b a (other_way a b e))
 
     pub cut-lesser : (a b : G) → h (lesser o a b) ≡ (h a && h b)
     unfolding lesser
     cut-lesser a b = go (o.at_most a b) refl
       where
         go : (t : Bool) → o.at_most a b ≡ t → h (cond t a b) ≡ (h a && h b)
-        go true e = sym (sub-and-at (h a) (h b) (cut.up a b e))
+        go true e = sym (sub_and_at (h a) (h b) (cut.up a b e))
         go false e = and_high (h a) (h b) (cut.up b a (other_way a b e))
 
     -- what a cut holds is above the bottom
@@ -82,19 +82,19 @@ module _ {G : Type 0} (o : Order G) where
           go false k = refl
 
   -- what every cut keeps is in order
-  pub le-by-cuts : (a b : G) → ((h : G → Bool) → Cut o h → h a ≡ true → h b ≡ true) → o.at_most a b ≡ true
-  le-by-cuts a b f = go (o.at_most a o.bottom) refl
+  pub le_by_cuts : (a b : G) → ((h : G → Bool) → Cut o h → h a ≡ true → h b ≡ true) → o.at_most a b ≡ true
+  le_by_cuts a b f = go (o.at_most a o.bottom) refl
     where
       go : (u : Bool) → o.at_most a o.bottom ≡ u → o.at_most a b ≡ true
       go true e = o.transitive a o.bottom b e (o.least b)
       go false e = f (o.at_most a) (from_cut a e) (le_refl a)
 
-  pub same-by-cuts : (a b : G) → ((h : G → Bool) → Cut o h → h a ≡ true → h b ≡ true) → ((h : G → Bool) → Cut o h → h b ≡ true → h a ≡ true) → a ≡ b
-  same-by-cuts a b f g = o.antisymmetric a b (le-by-cuts a b f) (le-by-cuts b a g)
+  pub same_by_cuts : (a b : G) → ((h : G → Bool) → Cut o h → h a ≡ true → h b ≡ true) → ((h : G → Bool) → Cut o h → h b ≡ true → h a ≡ true) → a ≡ b
+  same_by_cuts a b f g = o.antisymmetric a b (le_by_cuts a b f) (le_by_cuts b a g)
 
-  pub bot-of : (a : G) → above o a ≡ false → a ≡ o.bottom
+  pub bot_of : (a : G) → above o a ≡ false → a ≡ o.bottom
   unfolding above
-  bot-of a n = go (o.at_most a o.bottom) refl n
+  bot_of a n = go (o.at_most a o.bottom) refl n
     where
       go : (u : Bool) → o.at_most a o.bottom ≡ u → not u ≡ false → a ≡ o.bottom
       go true e m = o.antisymmetric a o.bottom e (o.least a)

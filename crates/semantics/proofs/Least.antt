@@ -6,12 +6,12 @@ use Rattle.semantics.specs.Sets.{has}
 use Rattle.semantics.specs.Rules.{Rule, Among, positive, reduct, breaks, founded, least_below, greatest_of, worst, objection, least_among, necessity, conflict, reading}
 use Rattle.semantics.specs.Statements.{Fits, LeastOf}
 use Rattle.semantics.proofs.Sets.{none_in}
-use Rattle.semantics.proofs.Cuts.{le-by-cuts}
+use Rattle.semantics.proofs.Cuts.{le_by_cuts}
 use Rattle.semantics.proofs.Count.{at_last}
 use Rattle.semantics.proofs.Bests.{least-out}
 use Rattle.semantics.proofs.Reducts.{reduct-out, reduct-fits}
-use Rattle.semantics.proofs.Derive.{sub-founded}
-use Rattle.semantics.proofs.Objections.{objection-founded, objection-unfounded, necessity-is-grade}
+use Rattle.semantics.proofs.Derive.{sub_founded}
+use Rattle.semantics.proofs.Objections.{objection-founded, objection_unfounded, necessity_is_grade}
 
 module _ {G : Type 0} (o : Order G) where
   module _ (test : ℕ → Bool) (f : ℕ → G) where
@@ -46,10 +46,10 @@ module _ {G : Type 0} (o : Order G) where
         go false t (inl a) = inl (more a)
         go false t (inr k) = inr (λ A l u. ⊎_elim (λ (e : A ≡ n). true≢false (sym u ∙ (ap test e ∙ t))) (λ m. k.0 A m u) (at_last A n l), k.1)
 
-  pub least-is-least : (w : ℕ) (test : ℕ → Bool) (f : ℕ → G) → LeastOf o w (least_among o w test f) test f
+  pub least_is_least : (w : ℕ) (test : ℕ → Bool) (f : ℕ → G) → LeastOf o w (least_among o w test f) test f
   unfolding least_among
-  least-is-least w test f = record {
-    below = λ A l t. le-by-cuts o (least_below o (2 ^ w) test f) (f A) (λ h cut k. least-out o h cut test f (2 ^ w) k A l t);
+  least_is_least w test f = record {
+    below = λ A l t. le_by_cuts o (least_below o (2 ^ w) test f) (f A) (λ h cut k. least-out o h cut test f (2 ^ w) k A l t);
     attained = λ B l t. ⊎_elim (λ a. a) (λ k. absurd (k.0 B l t)) (least-fork test f (2 ^ w));
     none = λ k. ⊎_elim (λ a. absurd (k a.0 a.1 a.2)) (λ e. e.1) (least-fork test f (2 ^ w));
   }
@@ -81,11 +81,11 @@ module _ {G : Type 0} (o : Order G) where
   module _ (w : ℕ) (P : List (Rule G)) where
     pub necessity-least : (x : ℕ) → LeastOf o w (necessity o w P x) (λ A. not (has A x)) (objection o w P)
     unfolding necessity
-    necessity-least x = least-is-least w (λ A. not (has A x)) (objection o w P)
+    necessity-least x = least_is_least w (λ A. not (has A x)) (objection o w P)
 
     pub conflict-least : LeastOf o w (conflict o w P) (λ A. true) (λ A. objection o w (reduct A P) A)
     unfolding conflict
-    conflict-least = least-is-least w (λ A. true) (λ A. objection o w (reduct A P) A)
+    conflict-least = least_is_least w (λ A. true) (λ A. objection o w (reduct A P) A)
 
     -- the objection to a founded set is the bottom or the grade of a rule
     held_at : (A : ℕ) (g : G) → founded w (reduct A P) A ≡ true → objection o w (reduct A P) A ≡ g → (g ≡ o.bottom) ⊎ ((r : Rule G) × Among r P × (r.grade ≡ g))
@@ -96,14 +96,14 @@ module _ {G : Type 0} (o : Order G) where
         (λ a. let s = reduct-out A P a.0 a.1 in inr (s.0, s.1, ap (λ (r : Rule G). r.grade) (sym s.3) ∙ (a.2 ∙ is)))
         (greatest-fork (breaks A) (λ r. r.grade) (reduct A P))
 
-    empty-founded : founded w (reduct 0 P) 0 ≡ true
-    empty-founded = sub-founded w (reduct 0 P) 0 (λ x t. none_in x t)
+    empty_founded : founded w (reduct 0 P) 0 ≡ true
+    empty_founded = sub_founded w (reduct 0 P) 0 (λ x t. none_in x t)
 
     pub conflict-held : (conflict o w P ≡ o.bottom) ⊎ ((r : Rule G) × Among r P × (r.grade ≡ conflict o w P))
     conflict-held =
         let a = conflict-least.attained 0 (pow_pos w) refl in
         ⊎_elim (λ t. held_at a.0 (conflict o w P) t a.3)
-        (λ n. held_at 0 (conflict o w P) empty-founded (low (sym a.3 ∙ objection-unfounded o w (reduct a.0 P) a.0 n)))
+        (λ n. held_at 0 (conflict o w P) empty_founded (low (sym a.3 ∙ objection_unfounded o w (reduct a.0 P) a.0 n)))
         (cases_Bool (founded w (reduct a.0 P) a.0))
       where
         -- where the conflict is the top, so is the objection to the empty set
@@ -119,4 +119,4 @@ module _ {G : Type 0} (o : Order G) (w : ℕ) (P : List (Rule G)) where
   unfolding reading
   grades-least fits A x l =
       subst (λ (g : G). LeastOf o w g (λ B. not (has B x)) (objection o w (reduct A P)))
-      (necessity-is-grade o w (reduct A P) (reduct-fits w A P fits) x l) (necessity-least o w (reduct A P) x)
+      (necessity_is_grade o w (reduct A P) (reduct-fits w A P fits) x l) (necessity-least o w (reduct A P) x)

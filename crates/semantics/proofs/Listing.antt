@@ -4,7 +4,7 @@ use Rattle.scale.specs.Laws.{Order}
 use Rattle.semantics.specs.Rules.{Rule, Among, stable, stable_below, stable_sets}
 use Rattle.semantics.specs.Statements.{Rising, ListsStable}
 use Rattle.semantics.proofs.Count.{at_last}
-use Rattle.semantics.proofs.Objections.{stable-is-below}
+use Rattle.semantics.proofs.Objections.{stable_is_below}
 use Rattle.semantics.proofs.Those.{in_left, in_right, in_either}
 
 module _ {G : Type 0} (o : Order G) (w : ℕ) (P : List (Rule G)) where
@@ -27,10 +27,10 @@ module _ {G : Type 0} (o : Order G) (w : ℕ) (P : List (Rule G)) where
       last true d e = inl d
       last false d e = absurd (true≢false (sym t ∙ (ap (stable o w P) d ∙ e)))
 
-  rising-more : (xs : List ℕ) (n : ℕ) → ((y : ℕ) → Among y xs → y < n) → Rising xs → Rising (xs ++ (n ∷ []))
-  rising-more [] n f c = (λ y i. absurd i, tt)
-  rising-more (x ∷ xs) n f c =
-      (λ y i. ⊎_elim (λ j. c.0 y j) (λ j. ⊎_elim (λ (e : y ≡ n). omega (arith, f x (inl refl))) (λ k. absurd k) j) (in_either xs (n ∷ []) y i), rising-more xs n (λ y i. f y (inr i)) c.1)
+  rising_more : (xs : List ℕ) (n : ℕ) → ((y : ℕ) → Among y xs → y < n) → Rising xs → Rising (xs ++ (n ∷ []))
+  rising_more [] n f c = (λ y i. absurd i, tt)
+  rising_more (x ∷ xs) n f c =
+      (λ y i. ⊎_elim (λ j. c.0 y j) (λ j. ⊎_elim (λ (e : y ≡ n). omega (arith, f x (inl refl))) (λ k. absurd k) j) (in_either xs (n ∷ []) y i), rising_more xs n (λ y i. f y (inr i)) c.1)
 
   pub rising : (n : ℕ) → Rising (stable_below o w P n)
   unfolding stable_below
@@ -41,12 +41,12 @@ module _ {G : Type 0} (o : Order G) (w : ℕ) (P : List (Rule G)) where
       xs = stable_below o w P n
 
       go : (b : Bool) → Rising xs → Rising (xs ++ cond b (n ∷ []) [])
-      go true c = rising-more xs n (λ y i. (listed-out n y i).0) c
+      go true c = rising_more xs n (λ y i. (listed-out n y i).0) c
       go false c = subst Rising (sym (append-nil xs)) c
 
-  pub lists-stable : ListsStable o w P (stable_sets o w P)
+  pub lists_stable : ListsStable o w P (stable_sets o w P)
   unfolding stable_sets
-  lists-stable = record {
-    all = λ A. (λ i. (listed-out (2 ^ w) A i).1, λ t. listed_in (2 ^ w) A (stable-is-below o w P A t) t);
+  lists_stable = record {
+    all = λ A. (λ i. (listed-out (2 ^ w) A i).1, λ t. listed_in (2 ^ w) A (stable_is_below o w P A t) t);
     rising = rising (2 ^ w);
   }

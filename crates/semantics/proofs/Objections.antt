@@ -5,12 +5,12 @@ use Rattle.scale.specs.Laws.{Order, above}
 use Rattle.semantics.specs.Sets.{has, within, collect, In}
 use Rattle.semantics.specs.Rules.{Rule, Among, reduct, applicable, breaks, worst, derived, steps, consequences, support, reading, stable, founded, objection, least_among, necessity, conflict}
 use Rattle.semantics.specs.Statements.{Fits, Graded}
-use Rattle.semantics.proofs.Sets.{false-from, has-below, same_set, same_truth, within_has, within-from, collect-below, collect-has}
-use Rattle.semantics.proofs.Cuts.{Cut, above-cut, bot-of, same-by-cuts}
-use Rattle.semantics.proofs.Bests.{least-in, least-out, least-miss, greatest-in, greatest-out}
+use Rattle.semantics.proofs.Sets.{false_from, has-below, same_set, same_truth, within_has, within_from, collect-below, collect-has}
+use Rattle.semantics.proofs.Cuts.{Cut, above-cut, bot_of, same_by_cuts}
+use Rattle.semantics.proofs.Bests.{least_in, least-out, least_miss, greatest_in, greatest-out}
 use Rattle.semantics.proofs.Stages.{Fires, step_in, step-out, within as no-further, closed}
-use Rattle.semantics.proofs.Reducts.{applicable-out, applicable-in, applicable-fits, reduct-fits, reduct-graded}
-use Rattle.semantics.proofs.Derive.{derived-none, derived-in, derived-out, derived-grows, founded-sub, sub-founded}
+use Rattle.semantics.proofs.Reducts.{applicable-out, applicable_in, applicable-fits, reduct-fits, reduct-graded}
+use Rattle.semantics.proofs.Derive.{derived-none, derived_in, derived-out, derived-grows, founded_sub, sub_founded}
 
 module _ {G : Type 0} (o : Order G) (w : ℕ) where
   pub support-has : (c : ℕ → G) (x : ℕ) → x < w → has (support o w c) x ≡ above o (c x)
@@ -25,13 +25,13 @@ module _ {G : Type 0} (o : Order G) (w : ℕ) where
   unfolding objection
   objection-founded P A t = cond-true (founded w P A) (worst o A P) o.top t
 
-  pub objection-unfounded : (P : List (Rule G)) (A : ℕ) → founded w P A ≡ false → objection o w P A ≡ o.top
+  pub objection_unfounded : (P : List (Rule G)) (A : ℕ) → founded w P A ≡ false → objection o w P A ≡ o.top
   unfolding objection
-  objection-unfounded P A t = cond-false (founded w P A) (worst o A P) o.top t
+  objection_unfounded P A t = cond-false (founded w P A) (worst o A P) o.top t
 
-  pub stable-is-below : (P : List (Rule G)) (A : ℕ) → stable o w P A ≡ true → A < 2 ^ w
+  pub stable_is_below : (P : List (Rule G)) (A : ℕ) → stable o w P A ≡ true → A < 2 ^ w
   unfolding stable
-  stable-is-below P A t = subst (λ (B : ℕ). B < 2 ^ w) (sym (eqb-true A (support o w (reading o w P A)) t)) (support-below (reading o w P A))
+  stable_is_below P A t = subst (λ (B : ℕ). B < 2 ^ w) (sym (eqb-true A (support o w (reading o w P A)) t)) (support-below (reading o w P A))
 
 module _ {G : Type 0} (o : Order G) (w : ℕ) (P : List (Rule G)) (fits : Fits w P) where
   -- what is above the bottom after n steps is derived in n rounds
@@ -42,7 +42,7 @@ module _ {G : Type 0} (o : Order G) (w : ℕ) (P : List (Rule G)) (fits : Fits w
       let f = step-out o w h cut P (steps o w P n) x t in
       let r = f.rule in
       subst (λ (y : ℕ). In y (derived P (suc n))) f.heads
-      (derived-in P n r f.occurs (λ y k. steps-derived h cut n y (f.needs y (has-below w r.pos y (fits r f.occurs).1 k) k)))
+      (derived_in P n r f.occurs (λ y k. steps-derived h cut n y (f.needs y (has-below w r.pos y (fits r f.occurs).1 k) k)))
 
   -- and, where no rule has the bottom grade, the other way round
   pub derived-steps : Graded o P → (n x : ℕ) → In x (derived P n) → above o (steps o w P n x) ≡ true
@@ -62,11 +62,11 @@ module _ {G : Type 0} (o : Order G) (w : ℕ) (P : List (Rule G)) (fits : Fits w
     swallows A none (suc n) x t =
         let f = step-out o w h cut P (steps o w P n) x t in
         let r = f.rule in
-        let all : within r.pos A ≡ true = within-from w r.pos A (fits r f.occurs).1 (λ y l k. swallows A none n y (f.needs y l k)) in
+        let all : within r.pos A ≡ true = within_from w r.pos A (fits r f.occurs).1 (λ y l k. swallows A none n y (f.needs y l k)) in
         ⊎_elim (λ (e : has A r.head ≡ true). ap (has A) (sym f.heads) ∙ e)
         (λ (e : has A r.head ≡ false).
         let broken : breaks A r ≡ true = and_from (within r.pos A) (not (has A r.head)) all (not_from_false (has A r.head) e) in
-        absurd (true≢false (sym (greatest-in o h cut (breaks A) (λ s. s.grade) P r f.occurs broken f.graded) ∙ none)))
+        absurd (true≢false (sym (greatest_in o h cut (breaks A) (λ s. s.grade) P r f.occurs broken f.graded) ∙ none)))
         (cases_Bool (has A r.head))
 
     -- the atoms whose grade is in the cut
@@ -82,9 +82,9 @@ module _ {G : Type 0} (o : Order G) (w : ℕ) (P : List (Rule G)) (fits : Fits w
     model-below = collect-below w (λ y. h (consequences o w P y))
 
     -- they break no rule of the cut
-    pub model-breaks-none : h (worst o model P) ≡ false
+    pub model_breaks_none : h (worst o model P) ≡ false
     unfolding worst breaks
-    model-breaks-none = false-from (h (worst o model P)) clash
+    model_breaks_none = false_from (h (worst o model P)) clash
       where
         clash : h (worst o model P) ≡ true → ⊥
         clash t =
@@ -102,34 +102,34 @@ module _ {G : Type 0} (o : Order G) (w : ℕ) (P : List (Rule G)) (fits : Fits w
     model-derived (suc n) x t =
         let f = step-out o w h cut P (steps o w P n) x t in
         let r = f.rule in
-        let all : within r.pos model ≡ true = within-from w r.pos model (fits r f.occurs).1 (λ y l k. model-has y l ∙ no-further o w h cut P fits n y (f.needs y l k)) in
+        let all : within r.pos model ≡ true = within_from w r.pos model (fits r f.occurs).1 (λ y l k. model-has y l ∙ no-further o w h cut P fits n y (f.needs y l k)) in
         step_in o w h cut (applicable model P) (steps o w (applicable model P) n) x
-        (record { rule = r; occurs = applicable-in model P r f.occurs all; heads = f.heads; graded = f.graded; needs = λ y l k. model-derived n y (f.needs y l k) })
+        (record { rule = r; occurs = applicable_in model P r f.occurs all; heads = f.heads; graded = f.graded; needs = λ y l k. model-derived n y (f.needs y l k) })
 
     pub model-founded : founded w P model ≡ true
     unfolding consequences
     model-founded =
         let A = model in
-        sub-founded w P A λ x t.
+        sub_founded w P A λ x t.
         let l : x < w = has-below w A x (model-below) t in
         steps-derived o w (applicable A P) (applicable-fits w A P fits) h cut w x (model-derived w x (sym (model-has x l) ∙ t))
 
     pub model-objection : h (objection o w P model) ≡ false
-    model-objection = ap h (objection-founded o w P model model-founded) ∙ model-breaks-none
+    model-objection = ap h (objection-founded o w P model model-founded) ∙ model_breaks_none
 
     -- the cut holds the necessity of an atom if it holds its grade
     pub necessity-up : (x : ℕ) → h (consequences o w P x) ≡ true → h (necessity o w P x) ≡ true
     unfolding necessity least_among consequences
-    necessity-up x t = least-in o h cut (λ A. not (has A x)) (objection o w P) (2 ^ w) λ A l lacks.
+    necessity-up x t = least_in o h cut (λ A. not (has A x)) (objection o w P) (2 ^ w) λ A l lacks.
         ⊎_elim (λ (e : founded w P A ≡ true).
         ap h (objection-founded o w P A e) ∙
         ⊎_elim (λ (u : h (worst o A P) ≡ true). u) (λ u. absurd (true≢false (sym (swallows A u w x t) ∙ not-true (has A x) lacks))) (cases_Bool (h (worst o A P))))
-        (λ e. ap h (objection-unfounded o w P A e) ∙ cut.holds_top)
+        (λ e. ap h (objection_unfounded o w P A e) ∙ cut.holds_top)
         (cases_Bool (founded w P A))
 
-    pub necessity-down : (x : ℕ) → x < w → h (necessity o w P x) ≡ true → h (consequences o w P x) ≡ true
+    pub necessity_down : (x : ℕ) → x < w → h (necessity o w P x) ≡ true → h (consequences o w P x) ≡ true
     unfolding necessity least_among
-    necessity-down x l t = ⊎_elim (λ (e : h (consequences o w P x) ≡ true). e) (λ e. absurd (clash e)) (cases_Bool (h (consequences o w P x)))
+    necessity_down x l t = ⊎_elim (λ (e : h (consequences o w P x) ≡ true). e) (λ e. absurd (clash e)) (cases_Bool (h (consequences o w P x)))
       where
         A : ℕ
         A = model
@@ -138,70 +138,70 @@ module _ {G : Type 0} (o : Order G) (w : ℕ) (P : List (Rule G)) (fits : Fits w
         clash e = true≢false (sym (least-out o h cut (λ B. not (has B x)) (objection o w P) (2 ^ w) t A (model-below) (not_from_false (has A x) (model-has x l ∙ e))) ∙ model-objection)
 
   -- the necessity of an atom is its grade in the consequences
-  pub necessity-is-grade : (x : ℕ) → x < w → necessity o w P x ≡ consequences o w P x
-  necessity-is-grade x l = same-by-cuts o _ _ (λ h cut. necessity-down h cut x l) (λ h cut. necessity-up h cut x)
+  pub necessity_is_grade : (x : ℕ) → x < w → necessity o w P x ≡ consequences o w P x
+  necessity_is_grade x l = same_by_cuts o _ _ (λ h cut. necessity_down h cut x l) (λ h cut. necessity-up h cut x)
 
   least-model : model (above o) (above-cut o) ≡ support o w (consequences o w P)
   unfolding model support
   least-model = refl
 
   -- nothing is held against A where it is founded and breaks no rule
-  pub none-opposes : (A : ℕ) → founded w P A ≡ true → ((r : Rule G) → Among r P → breaks A r ≡ false) → objection o w P A ≡ o.bottom
+  pub none_opposes : (A : ℕ) → founded w P A ≡ true → ((r : Rule G) → Among r P → breaks A r ≡ false) → objection o w P A ≡ o.bottom
   unfolding worst
-  none-opposes A t f = objection-founded o w P A t ∙ bot-of o (worst o A P) (false-from (above o (worst o A P)) clash)
+  none_opposes A t f = objection-founded o w P A t ∙ bot_of o (worst o A P) (false_from (above o (worst o A P)) clash)
     where
       clash : above o (worst o A P) ≡ true → ⊥
       clash u = let a = greatest-out o (above o) (above-cut o) (breaks A) (λ s. s.grade) P u in true≢false (sym a.2 ∙ f a.0 a.1)
 
-  pub unopposed-founded : (A : ℕ) → objection o w P A ≡ o.bottom → (founded w P A ≡ true) × (above o (worst o A P) ≡ false)
-  unopposed-founded A e =
+  pub unopposed_founded : (A : ℕ) → objection o w P A ≡ o.bottom → (founded w P A ≡ true) × (above o (worst o A P) ≡ false)
+  unopposed_founded A e =
       ⊎_elim
       (λ t. (t, ap (above o) (sym (objection-founded o w P A t) ∙ e) ∙ (above-cut o).out))
-      (λ n. absurd (o.apart (sym e ∙ objection-unfounded o w P A n)))
+      (λ n. absurd (o.apart (sym e ∙ objection_unfounded o w P A n)))
       (cases_Bool (founded w P A))
 
-  pub unopposed-breaks-none : Graded o P → (A : ℕ) → objection o w P A ≡ o.bottom → (r : Rule G) → Among r P → breaks A r ≡ false
+  pub unopposed_breaks_none : Graded o P → (A : ℕ) → objection o w P A ≡ o.bottom → (r : Rule G) → Among r P → breaks A r ≡ false
   unfolding worst
-  unopposed-breaks-none graded A e r i =
-      false-from (breaks A r) λ t.
-      true≢false (sym (greatest-in o (above o) (above-cut o) (breaks A) (λ s. s.grade) P r i t (graded r i)) ∙ (unopposed-founded A e).1)
+  unopposed_breaks_none graded A e r i =
+      false_from (breaks A r) λ t.
+      true≢false (sym (greatest_in o (above o) (above-cut o) (breaks A) (λ s. s.grade) P r i t (graded r i)) ∙ (unopposed_founded A e).1)
 
-  pub unopposed-is-model : Graded o P → (A : ℕ) → A < 2 ^ w → objection o w P A ≡ o.bottom → A ≡ support o w (consequences o w P)
+  pub unopposed_is_model : Graded o P → (A : ℕ) → A < 2 ^ w → objection o w P A ≡ o.bottom → A ≡ support o w (consequences o w P)
   unfolding consequences
-  unopposed-is-model graded A l e =
-      let p = unopposed-founded A e in
+  unopposed_is_model graded A l e =
+      let p = unopposed_founded A e in
       let c = consequences o w P in
       same_set w A (support o w c) l (support-below o w c) λ x m.
       same_truth (has A x) (has (support o w c) x)
-      (λ t. support-has o w c x m ∙ derived-steps o w P fits graded w x (derived-grows (applicable A P) P (λ r i. (applicable-out A P r i).0) w x (founded-sub w P A p.0 x t)))
+      (λ t. support-has o w c x m ∙ derived-steps o w P fits graded w x (derived-grows (applicable A P) P (λ r i. (applicable-out A P r i).0) w x (founded_sub w P A p.0 x t)))
       (λ t. swallows (above o) (above-cut o) A p.1 w x (sym (support-has o w c x m) ∙ t))
 
-  pub model-is-unopposed : (A : ℕ) → A ≡ support o w (consequences o w P) → objection o w P A ≡ o.bottom
-  model-is-unopposed A e =
-      bot-of o (objection o w P A) (ap (λ B. above o (objection o w P B)) (e ∙ sym least-model) ∙ model-objection (above o) (above-cut o))
+  pub model_is_unopposed : (A : ℕ) → A ≡ support o w (consequences o w P) → objection o w P A ≡ o.bottom
+  model_is_unopposed A e =
+      bot_of o (objection o w P A) (ap (λ B. above o (objection o w P B)) (e ∙ sym least-model) ∙ model-objection (above o) (above-cut o))
 
 module _ {G : Type 0} (o : Order G) (w : ℕ) (P : List (Rule G)) (fits : Fits w P) where
-  pub unopposed-is-stable : Graded o P → (A : ℕ) → A < 2 ^ w → objection o w (reduct A P) A ≡ o.bottom → stable o w P A ≡ true
+  pub unopposed_is_stable : Graded o P → (A : ℕ) → A < 2 ^ w → objection o w (reduct A P) A ≡ o.bottom → stable o w P A ≡ true
   unfolding stable reading
-  unopposed-is-stable graded A l e =
-      eq-eqb A (support o w (consequences o w (reduct A P))) (unopposed-is-model o w (reduct A P) (reduct-fits w A P fits) (reduct-graded o A P graded) A l e)
+  unopposed_is_stable graded A l e =
+      eq-eqb A (support o w (consequences o w (reduct A P))) (unopposed_is_model o w (reduct A P) (reduct-fits w A P fits) (reduct-graded o A P graded) A l e)
 
-  pub stable-is-unopposed : (A : ℕ) → stable o w P A ≡ true → objection o w (reduct A P) A ≡ o.bottom
+  pub stable_is_unopposed : (A : ℕ) → stable o w P A ≡ true → objection o w (reduct A P) A ≡ o.bottom
   unfolding stable reading
-  stable-is-unopposed A t = model-is-unopposed o w (reduct A P) (reduct-fits w A P fits) A (eqb-true A (support o w (consequences o w (reduct A P))) t)
+  stable_is_unopposed A t = model_is_unopposed o w (reduct A P) (reduct-fits w A P fits) A (eqb-true A (support o w (consequences o w (reduct A P))) t)
 
-  pub free-of-conflict : Graded o P → conflict o w P ≡ o.bottom → (A : ℕ) × (A < 2 ^ w) × (stable o w P A ≡ true)
+  pub free_of_conflict : Graded o P → conflict o w P ≡ o.bottom → (A : ℕ) × (A < 2 ^ w) × (stable o w P A ≡ true)
   unfolding conflict least_among
-  free-of-conflict graded e =
-      let a = least-miss o (above o) (above-cut o) (λ A. true) (λ A. objection o w (reduct A P) A) (2 ^ w) (ap (above o) e ∙ (above-cut o).out) in
-      (a.0, a.1, unopposed-is-stable graded a.0 a.1 (bot-of o (objection o w (reduct a.0 P) a.0) a.3))
+  free_of_conflict graded e =
+      let a = least_miss o (above o) (above-cut o) (λ A. true) (λ A. objection o w (reduct A P) A) (2 ^ w) (ap (above o) e ∙ (above-cut o).out) in
+      (a.0, a.1, unopposed_is_stable graded a.0 a.1 (bot_of o (objection o w (reduct a.0 P) a.0) a.3))
 
-  pub stable-frees : (A : ℕ) → stable o w P A ≡ true → conflict o w P ≡ o.bottom
+  pub stable_frees : (A : ℕ) → stable o w P A ≡ true → conflict o w P ≡ o.bottom
   unfolding conflict least_among
-  stable-frees A t = bot-of o (conflict o w P) (false-from (above o (conflict o w P)) clash)
+  stable_frees A t = bot_of o (conflict o w P) (false_from (above o (conflict o w P)) clash)
     where
       clash : above o (conflict o w P) ≡ true → ⊥
       clash u =
           true≢false
-          (sym (least-out o (above o) (above-cut o) (λ B. true) (λ B. objection o w (reduct B P) B) (2 ^ w) u A (stable-is-below o w P A t) refl)
-          ∙ (ap (above o) (stable-is-unopposed A t) ∙ (above-cut o).out))
+          (sym (least-out o (above o) (above-cut o) (λ B. true) (λ B. objection o w (reduct B P) B) (2 ^ w) u A (stable_is_below o w P A t) refl)
+          ∙ (ap (above o) (stable_is_unopposed A t) ∙ (above-cut o).out))

@@ -18,15 +18,15 @@ module _ {X : Type 0} where
         go true e (inr j) ih = (inr (ih j).0, (ih j).1)
         go false e j ih = (inr (ih j).0, (ih j).1)
 
-    pub those-in : (xs : List X) (r : X) → Among r xs → p r ≡ true → Among r (those p xs)
+    pub those_in : (xs : List X) (r : X) → Among r xs → p r ≡ true → Among r (those p xs)
     unfolding those
-    those-in [] r i t = absurd i
-    those-in (s ∷ xs) r (inl d) t = go (p s) refl
+    those_in [] r i t = absurd i
+    those_in (s ∷ xs) r (inl d) t = go (p s) refl
       where
         go : (b : Bool) → p s ≡ b → Among r (cond b (s ∷ those p xs) (those p xs))
         go true e = inl d
         go false e = absurd (true≢false (sym t ∙ (ap p d ∙ e)))
-    those-in (s ∷ xs) r (inr i) t = go (p s) (those-in xs r i t)
+    those_in (s ∷ xs) r (inr i) t = go (p s) (those_in xs r i t)
       where
         go : (b : Bool) → Among r (those p xs) → Among r (cond b (s ∷ those p xs) (those p xs))
         go true j = inr j
@@ -46,9 +46,9 @@ module _ {X : Type 0} where
   in_either (x ∷ xs) ys r (inl e) = inl (inl e)
   in_either (x ∷ xs) ys r (inr i) = ⊎_elim (λ j. inl (inr j)) inr (in_either xs ys r i)
 
-  pub in-none : (xs : List X) → ((r : X) → Among r xs → ⊥) → xs ≡ []
-  in-none [] f = refl
-  in-none (x ∷ xs) f = absurd (f x (inl refl))
+  pub in_none : (xs : List X) → ((r : X) → Among r xs → ⊥) → xs ≡ []
+  in_none [] f = refl
+  in_none (x ∷ xs) f = absurd (f x (inl refl))
 
   all_in : (P : X → Type 0) (xs : List X) → AllByRecursion P xs → (r : X) → Among r xs → P r
   all_in P [] a r i = absurd i
@@ -60,8 +60,8 @@ module _ {X : Type 0} where
   all_of P (x ∷ xs) f = (f x (inl refl), all_of P xs (λ r i. f r (inr i)))
 
   -- an order of a list has what the list has
-  pub in-shuffled : (xs ys : List X) → IsPermutation xs ys → (r : X) → Among r ys → Among r xs
-  in-shuffled xs ys s = all_in (λ r. Among r xs) ys (all_shuffled (λ r. Among r xs) xs ys s (all_of (λ r. Among r xs) xs (λ r i. i)))
+  pub in_shuffled : (xs ys : List X) → IsPermutation xs ys → (r : X) → Among r ys → Among r xs
+  in_shuffled xs ys s = all_in (λ r. Among r xs) ys (all_shuffled (λ r. Among r xs) xs ys s (all_of (λ r. Among r xs) xs (λ r i. i)))
 
   past : (x : X) (ys zs : List X) → IsPermutation (x ∷ (ys ++ zs)) (ys ++ (x ∷ zs))
   past x [] zs = IsPermutation-refl (x ∷ zs)

@@ -3,7 +3,7 @@ use Rattle.std.proofs.lemmas.List.{length-map}
 use Rattle.semantics.specs.Plain.{grade_of}
 use Rattle.semantics.specs.declared.rule.PlainRule.{PlainRule}
 use Rattle.grading.specs.Ranks.{grades, rank_among, ranks_of}
-use Rattle.grading.proofs.Ranking.{rank-le, place_set, ranks-set, same-grades, same_place, ranks-at, ranks-from}
+use Rattle.grading.proofs.Ranking.{rank-le, place_set, ranks-set, same-grades, same_place, ranks_at, ranks_from}
 use Rattle.grading.proofs.conflict.rank_all.Goals as goal
 
 pub invariant_of-rules : goal.invariant_of-rules
@@ -25,7 +25,7 @@ loop-i-preserved g c =
     let inside : i < length rules = omega arith in
     let kept = c.loop-i.invariant.0 in
     let rank = c.rank_of-rank.ensures ∙ ap₂ (rank_among s.order) (same-grades s rows rules c.args.rules.now kept) c.grade_at.ensures
-    ∙ sym (ranks-at s rows c.args.rules.now i r (omega arith) (same_place rules c.args.rules.now kept i r inside c.index-rules-i.is)) in (
+    ∙ sym (ranks_at s rows c.args.rules.now i r (omega arith) (same_place rules c.args.rules.now kept i r inside c.index-rules-i.is)) in (
       place_set rules i r _ inside c.index-rules-i.is refl ∙ kept,
       ranks-set rules i r _ inside c.index-rules-i.is (λ k. get_or (ranks_of s rows c.args.rules.now) k 0) c.loop-i.invariant.1 rank,
     )
@@ -36,5 +36,5 @@ returns g c =
     let rules = c.loop-i.rules in
     record {
       kept = c.loop-i.invariant.0;
-      ranked = ranks-from s c.args.rows.now c.args.rules.now _ (length-map rules (λ (r : PlainRule). r.rank) ∙ omega arith) (λ k h. c.loop-i.invariant.1 k (omega arith));
+      ranked = ranks_from s c.args.rows.now c.args.rules.now _ (length-map rules (λ (r : PlainRule). r.rank) ∙ omega arith) (λ k h. c.loop-i.invariant.1 k (omega arith));
     }

@@ -1,5 +1,5 @@
 use Rattle.std.proofs.Common.{ℕ, ◌+◌, ◌<◌, length, sym, ap, ◌∙◌, arith}
-use Rattle.grading.proofs.Ranking.{rank-few, rank-none, rank-more, rank-past, rank-all}
+use Rattle.grading.proofs.Ranking.{rank-few, rank-none, rank_more, rank_past, rank-all}
 use Rattle.grading.proofs.conflict.rank_of.Goals as goal
 use Rattle.grading.proofs.conflict.rank_of.Goals.{then-not-at_most, else-not-at_most}
 
@@ -18,8 +18,8 @@ loop-rule-preserved g c =
     let r = c.rule-item.result in
     let here = c.at_most.ensures ∙ ap (s.order.at_most c.args.grade) c.grade_at.ensures in
     elim c.if-not-at_most.branch [
-      | then-not-at_most w ↦ w.rank-is ∙ ap (λ (n : ℕ). n + 1) c.loop-rule.invariant ∙ sym (rank-more s c.args.rows.now c.args.rules.now c.args.grade i r inside c.rule-item.is (sym here ∙ w.if-not-at_most.true))
-      | else-not-at_most w ↦ w.rank-is ∙ c.loop-rule.invariant ∙ sym (rank-past s c.args.rows.now c.args.rules.now c.args.grade i r inside c.rule-item.is (sym here ∙ w.if-not-at_most.false))
+      | then-not-at_most w ↦ w.rank-is ∙ ap (λ (n : ℕ). n + 1) c.loop-rule.invariant ∙ sym (rank_more s c.args.rows.now c.args.rules.now c.args.grade i r inside c.rule-item.is (sym here ∙ w.if-not-at_most.true))
+      | else-not-at_most w ↦ w.rank-is ∙ c.loop-rule.invariant ∙ sym (rank_past s c.args.rows.now c.args.rules.now c.args.grade i r inside c.rule-item.is (sym here ∙ w.if-not-at_most.false))
     ]
 
 pub returns : goal.returns

@@ -1,6 +1,6 @@
 use Rattle.std.proofs.Common.{sym, ◌∙◌}
 use Rattle.semantics.specs.Sets.{width}
-use Rattle.semantics.proofs.Objections.{objection-founded, objection-unfounded}
+use Rattle.semantics.proofs.Objections.{objection-founded, objection_unfounded}
 use Rattle.grading.proofs.Conflicts.{founded-same}
 use Rattle.grading.proofs.objection.objection.Goals as goal
 
@@ -10,4 +10,4 @@ returns-then-founded g c =
 
 pub returns-else-founded : goal.returns-else-founded
 returns-else-founded g c =
-    c.top.ensures ∙ sym (objection-unfounded _ width _ _ (founded-same g.S.Scale.scale width c.args.set c.args.rules.now c.args.rows.now ∙ sym c.if-founded.ensures))
+    c.top.ensures ∙ sym (objection_unfounded _ width _ _ (founded-same g.S.Scale.scale width c.args.set c.args.rules.now c.args.rows.now ∙ sym c.if-founded.ensures))

@@ -1,6 +1,6 @@
 use Rattle.std.proofs.Common.{◌<◌, length, ◌∙◌, arith}
 use Rattle.std.proofs.lemmas.Bool.Decides.{not_from_Decides}
-use Rattle.grading.proofs.Worst.{worst-none, worst-more, worst-past, worst-all}
+use Rattle.grading.proofs.Worst.{worst-none, worst_more, worst_past, worst-all}
 use Rattle.grading.proofs.objection.worst.Goals as goal
 use Rattle.grading.proofs.objection.worst.Goals.{then-is_broken, else-is_broken}
 
@@ -15,10 +15,10 @@ loop-rule-preserved g c =
     let r = c.rule-item.result in
     elim c.if-is_broken.branch [
       | then-is_broken w ↦
-          w.grade-is ∙ worst-more s c.args.set c.args.rules.now c.args.rows.now i c.loop-rule.grade c.loop-rule.invariant r inside c.rule-item.is
+          w.grade-is ∙ worst_more s c.args.set c.args.rules.now c.args.rows.now i c.loop-rule.grade c.loop-rule.invariant r inside c.rule-item.is
           (c.is_broken.ensures.0 w.if-is_broken.true) w.grade_at.result w.greater_of-grade.result w.grade_at.ensures w.greater_of-grade.ensures
       | else-is_broken w ↦
-          w.grade-is ∙ worst-past s c.args.set c.args.rules.now c.args.rows.now i c.loop-rule.grade c.loop-rule.invariant r inside c.rule-item.is
+          w.grade-is ∙ worst_past s c.args.set c.args.rules.now c.args.rows.now i c.loop-rule.grade c.loop-rule.invariant r inside c.rule-item.is
           (not_from_Decides _ c.is_broken.ensures w.if-is_broken.false)
     ]
 

@@ -1,6 +1,6 @@
 use Rattle.std.proofs.Common.{◌<◌, length, refl, arith}
 use Rattle.rulebase.specs.Tables.{most_places}
-use Rattle.rulebase.proofs.Copied.{copied_none, copied_more, copied-past, copied_all}
+use Rattle.rulebase.proofs.Copied.{copied_none, copied_more, copied_past, copied_all}
 use Rattle.rulebase.proofs.reading.read_out.Goals as goal
 use Rattle.rulebase.proofs.reading.read_out.Goals.{in-Some, in_default}
 
@@ -16,7 +16,7 @@ loop-place-preserved g c =
     let b : i < most_places = omega arith in
     elim c.match-plain_rule.branch [
       | in-Some w ↦ simp (w.count-is, w.out-is) (copied_more s c.args.rules.now c.args.rows.now i c.loop-place.count c.loop-place.out c.loop-place.invariant l m w.in-Some.rule b w.in-Some.ensures)
-      | in_default w ↦ simp (w.count-is, w.out-is) (copied-past s c.args.rules.now c.args.rows.now i c.loop-place.count c.loop-place.out c.loop-place.invariant l m w.in_default.ensures)
+      | in_default w ↦ simp (w.count-is, w.out-is) (copied_past s c.args.rules.now c.args.rows.now i c.loop-place.count c.loop-place.out c.loop-place.invariant l m w.in_default.ensures)
     ]
 
 pub returns : goal.returns

@@ -3,8 +3,8 @@ use Rattle.semantics.specs.Sets.{width}
 use Rattle.rulebase.specs.Calls.{rules_in, rows_in}
 use Rattle.rulebase.specs.Lists.{first_calls, kept_all}
 use Rattle.rulebase.specs.Reference.{replies, final}
-use Rattle.rulebase.proofs.AsMachine.{lowest-stable, none_left, held-lawful, grades-necessities, grades-readings, conflict-objection, conflict-bottom}
-use Rattle.rulebase.proofs.RunLoop.{opened-tables, opened-then}
+use Rattle.rulebase.proofs.AsMachine.{lowest-stable, none_left, held-lawful, grades-necessities, grades_readings, conflict-objection, conflict-bottom}
+use Rattle.rulebase.proofs.RunLoop.{opened_tables, opened_then}
 use Rattle.rulebase.proofs.running.run_all.Goals as goal
 
 pub returns : goal.returns
@@ -17,7 +17,7 @@ returns g c =
     let n = c.run-performed.result in
     let cs = first_calls n c.args.calls.now in
     let rows = c.args.readings.now in
-    let t = opened-then s c.args.rules.now c.args.rows.now (rules_in a) (rows_in a) (rules_in b) (rows_in b) (opened-tables s c.args.rules.now c.args.rows.now (rules_in a) (rows_in a) o.rules o.rows) e.stays in
+    let t = opened_then s c.args.rules.now c.args.rows.now (rules_in a) (rows_in a) (rules_in b) (rows_in b) (opened_tables s c.args.rules.now c.args.rows.now (rules_in a) (rows_in a) o.rules o.rows) e.stays in
     record {
       agrees = record {
         count = e.count;
@@ -35,7 +35,7 @@ returns g c =
       no_more = none_left _;
       lawful = held-lawful _;
       necessities = grades-necessities _;
-      graded = grades-readings _;
+      graded = grades_readings _;
       conflicts = conflict-objection _;
       bottom = conflict-bottom _;
       rules_name = e.rules_name ∙ o.rules_name;

@@ -1,13 +1,13 @@
 use Rattle.std.proofs.Common.{◌≡◌, [], ◌∷◌, sym, ◌∙◌, arith, rules}
 use Rattle.std.proofs.lemmas.Slice.Eq.{text_from_reads}
-use Rattle.scale.proofs.Shapes.{from_one, from-two, hundred, no_number}
+use Rattle.scale.proofs.Shapes.{from_one, from_two, hundred, no_number}
 use Rattle.scale.proofs.numbered.point_numbered.Goals as goal
 
 pub returns-in-48-to-57 : goal.returns-in-48-to-57
 returns-in-48-to-57 c = from_one c.args.bytes.now c.new.result.value (search rules) (search rules)
 
 pub returns-in-49-to-57 : goal.returns-in-49-to-57
-returns-in-49-to-57 c = from-two c.args.bytes.now c.new-in-49-to-57.result.value (search rules) (search rules)
+returns-in-49-to-57 c = from_two c.args.bytes.now c.new-in-49-to-57.result.value (search rules) (search rules)
 
 pub returns-in-49 : goal.returns-in-49
 returns-in-49 c =

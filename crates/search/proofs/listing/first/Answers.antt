@@ -1,5 +1,5 @@
-use Rattle.search.proofs.Listed.{first-listed}
+use Rattle.search.proofs.Listed.{first_listed}
 use Rattle.search.proofs.listing.first.Goals as goal
 
 pub returns : goal.returns
-returns c = first-listed c.args.rules.now c.least.result c.least.ensures
+returns c = first_listed c.args.rules.now c.least.result c.least.ensures

@@ -1,5 +1,5 @@
-use Rattle.semantics.proofs.Fixpoints.{consequences-settle, reading-settles}
+use Rattle.semantics.proofs.Fixpoints.{consequences_settle, reading_settles_lem}
 use Rattle.semantics.proofs.theory.reading_settles.Goals as goal
 
 pub returns : goal.returns
-returns g c = record { reading = reading-settles; consequences = consequences-settle }
+returns g c = record { reading = reading_settles_lem; consequences = consequences_settle }

@@ -1,18 +1,18 @@
 use Rattle.std.proofs.Common.{◌≡◌, ◌<◌, sym, ◌∙◌, ⊎_elim}
 use Rattle.semantics.specs.Sets.{others, collect}
-use Rattle.semantics.proofs.Sets.{decides-within, decides-disjoint, same-atoms, has-weight, in-adding, adding-in, adding-keeps, has-below, others_below, in-others, out-others, out-from, not-both, collect-below, collect-has}
+use Rattle.semantics.proofs.Sets.{decides_within, decides_disjoint, same_atoms, has_weight, in_adding, adding_in, adding-keeps, has-below, others_below, in_others, out-others, out_from, not_both, collect-below, collect-has}
 use Rattle.semantics.proofs.theory.sets_by_atoms.Goals as goal
 
 pub returns : goal.returns
 returns c = record {
-  within = decides-within;
-  disjoint = decides-disjoint;
-  same = same-atoms;
-  weight = has-weight;
-  adding = λ A k x. (in-adding A k x, λ i. ⊎_elim (adding-keeps A k x) (λ (e : x ≡ k). rw e (adding-in A k)) i);
+  within = decides_within;
+  disjoint = decides_disjoint;
+  same = same_atoms;
+  weight = has_weight;
+  adding = λ A k x. (in_adding A k x, λ i. ⊎_elim (adding-keeps A k x) (λ (e : x ≡ k). rw e (adding_in A k)) i);
   others = λ w A x l. (
-    λ i. (has-below w (others w A) x (others_below w A) i, out-from x A (λ j. not-both x (others w A) i (out-others w A x l j))),
-    λ p. in-others w A x p.0 l p.1,
+    λ i. (has-below w (others w A) x (others_below w A) i, out_from x A (λ j. not_both x (others w A) i (out-others w A x l j))),
+    λ p. in_others w A x p.0 l p.1,
   );
   collect = λ n p x. (
     λ i. let l : x < n = has-below n (collect n p) x (collect-below n p) i in (l, sym (collect-has n p x l) ∙ i),

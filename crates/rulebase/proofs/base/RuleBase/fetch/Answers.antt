@@ -1,7 +1,7 @@
 use Rattle.std.proofs.Common.{length, sym, refl}
 use Rattle.rulebase.specs.Calls.{rules_in, rows_in}
 use Rattle.rulebase.proofs.Staying.{stays_same}
-use Rattle.rulebase.proofs.Fetches.{stale-reply, stale-next, short-reply, short-next, fetch-reply, fetch-next}
+use Rattle.rulebase.proofs.Fetches.{stale-reply, stale-next, short-reply, short-next, fetch_reply, fetch_next}
 use Rattle.rulebase.proofs.base.RuleBase.fetch.Goals as goal
 
 pub returns-in-Stale : goal.returns-in-Stale
@@ -43,8 +43,8 @@ returns-in_default-read_next g c =
     let n = length c.args.buffer.now in
     let h = c.in_default-read_next.ensures in
     record {
-      answer = fetch-reply s b.rules.now b.grades.rows.now b.cursor n c.in_default.not-Stale c.if-buffer-lt-ATOMS.false c.args.buffer.now c.read_next.new.buffer _ h;
-      state = fetch-next s b.rules.now b.grades.rows.now b.cursor n c.in_default.not-Stale c.if-buffer-lt-ATOMS.false c.args.buffer.now c.read_next.new.buffer _ h;
+      answer = fetch_reply s b.rules.now b.grades.rows.now b.cursor n c.in_default.not-Stale c.if-buffer-lt-ATOMS.false c.args.buffer.now c.read_next.new.buffer _ h;
+      state = fetch_next s b.rules.now b.grades.rows.now b.cursor n c.in_default.not-Stale c.if-buffer-lt-ATOMS.false c.args.buffer.now c.read_next.new.buffer _ h;
       buffer = h.rows;
       rules = refl {a = b.rules.now};
       rows = refl {a = b.grades.rows.now};
@@ -60,8 +60,8 @@ returns g c =
     let n = length c.args.buffer.now in
     let h = c.in-Some.ensures in
     record {
-      answer = fetch-reply s b.rules.now b.grades.rows.now b.cursor n c.in_default.not-Stale c.if-buffer-lt-ATOMS.false c.args.buffer.now c.read_next.new.buffer _ h;
-      state = fetch-next s b.rules.now b.grades.rows.now b.cursor n c.in_default.not-Stale c.if-buffer-lt-ATOMS.false c.args.buffer.now c.read_next.new.buffer _ h;
+      answer = fetch_reply s b.rules.now b.grades.rows.now b.cursor n c.in_default.not-Stale c.if-buffer-lt-ATOMS.false c.args.buffer.now c.read_next.new.buffer _ h;
+      state = fetch_next s b.rules.now b.grades.rows.now b.cursor n c.in_default.not-Stale c.if-buffer-lt-ATOMS.false c.args.buffer.now c.read_next.new.buffer _ h;
       buffer = h.rows;
       rules = refl {a = b.rules.now};
       rows = refl {a = b.grades.rows.now};

@@ -1,7 +1,7 @@
 use Rattle.std.proofs.Common.{◌∙◌}
 use Rattle.semantics.specs.Sets.{width}
 use Rattle.rulebase.specs.Calls.{state_in}
-use Rattle.rulebase.proofs.Conflicts.{mend-reply, mend-next}
+use Rattle.rulebase.proofs.Conflicts.{mend_reply, mend_next}
 use Rattle.rulebase.proofs.base.RuleBase.mend.Goals as goal
 
 pub returns : goal.returns
@@ -10,8 +10,8 @@ returns g c =
     let st = state_in s c.args.self.now in
     let k = c.cut-emptied.ensures in
     record {
-      answer = mend-reply s.order width st _ c.conflict-grade.ensures.answer _ k.answer;
-      state = k.state ∙ mend-next s.order width st _ c.conflict-grade.ensures.answer;
+      answer = mend_reply s.order width st _ c.conflict-grade.ensures.answer _ k.answer;
+      state = k.state ∙ mend_next s.order width st _ c.conflict-grade.ensures.answer;
       rules = k.rules;
       rows = k.rows;
       stays = k.stays;

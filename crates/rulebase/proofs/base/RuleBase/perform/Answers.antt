@@ -3,7 +3,7 @@ use Rattle.semantics.specs.Sets.{width}
 use Rattle.rulebase.specs.Calls.{rules_in, rows_in, state_in}
 use Rattle.rulebase.specs.Reference.{reply, next}
 use Rattle.rulebase.specs.Runs.{within}
-use Rattle.rulebase.proofs.Conflicts.{rewind-reply, conflict-next}
+use Rattle.rulebase.proofs.Conflicts.{rewind_reply, conflict-next}
 use Rattle.rulebase.proofs.Staying.{stays_same}
 use Rattle.rulebase.proofs.base.RuleBase.perform.Goals as goal
 
@@ -14,7 +14,7 @@ returns-in-Rewind g c =
     let n = length c.args.rows.now in
     let k = c.rewind.ensures in
     record {
-      answer = rewind-reply s.order width st ∙ ap (λ call. reply s.order width st (within n call)) (sym c.in-Rewind.is);
+      answer = rewind_reply s.order width st ∙ ap (λ call. reply s.order width st (within n call)) (sym c.in-Rewind.is);
       state = k.state ∙ ap (λ call. next s.order width st (within n call)) (sym c.in-Rewind.is);
       rows = refl {a = c.args.rows.now};
       stays = k.stays;

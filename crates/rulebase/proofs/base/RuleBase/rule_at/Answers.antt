@@ -1,7 +1,7 @@
 use Rattle.std.proofs.Common.{◌<◌, sym, arith}
 use Rattle.rulebase.specs.Calls.{rules_in, rows_in}
 use Rattle.rulebase.specs.Tables.{count_of, state_of}
-use Rattle.rulebase.proofs.Setting.{at_out, at-empty, at_held}
+use Rattle.rulebase.proofs.Setting.{at_out, at_empty, at_held}
 use Rattle.rulebase.proofs.base.RuleBase.rule_at.Goals as goal
 
 pub returns-then-place-places : goal.returns-then-place-places
@@ -15,7 +15,7 @@ unfolding state_of
 returns-then-not-is_held g c =
     let b = c.args.self.now in
     let inside : c.args.place < count_of (rules_in b) (rows_in b) = omega arith in
-    at-empty g.S.Scale.scale (rules_in b) (rows_in b) c.args.place inside (sym c.if-not-is_held.ensures)
+    at_empty g.S.Scale.scale (rules_in b) (rows_in b) c.args.place inside (sym c.if-not-is_held.ensures)
 
 pub returns : goal.returns
 unfolding state_of
