@@ -1,12 +1,12 @@
 -- The set that the ranks object to least is one that the grades object to least.
-use Rattle.std.proofs.Common.{◌≡◌, ℕ, ◌^◌, ◌<◌, ◌≤◌, true, List, [], ◌∷◌, length, get_or, sym, refl, ap, ◌∙◌, subst, ap₂, ⊎_elim, arith}
-use Rattle.std.specs.List.{ContainsAt as Has}
+use Rattle.std.proofs.Common.{◌≡◌, ℕ, ◌^◌, ◌<◌, ◌≤◌, true, cond, List, get_or, sym, refl, ap, ◌∙◌, subst, ⊎_elim, arith}
+use Rattle.std.specs.List.{Contains}
 use Rattle.std.proofs.lemmas.List.{get_or-map}
 use Rattle.std.proofs.lemmas.Bool.{cases_Bool}
 use Rattle.scale.specs.Laws.{Scaled}
 use Rattle.semantics.specs.Sets.{width}
 use Rattle.semantics.specs.Rules.{Rule, positive, reduct, breaks, founded, worst, objection, conflict}
-use Rattle.semantics.specs.Plain.{weigh, grade_in, grade_of, weighted, by_place, by_rank, Broken}
+use Rattle.semantics.specs.Plain.{weigh, grade_of, weighted, by_place, by_rank, Broken}
 use Rattle.semantics.specs.declared.rule.PlainRule.{PlainRule}
 use Rattle.semantics.proofs.Cuts.{le_by_cuts}
 use Rattle.semantics.proofs.Bests.{greatest_in, greatest-out}
@@ -14,37 +14,31 @@ use Rattle.semantics.proofs.Plain.{graded_in, graded-out}
 use Rattle.semantics.proofs.Reducts.{Fails, broken_in, broken-out}
 use Rattle.semantics.proofs.Objections.{objection-founded, objection_unfounded}
 use Rattle.semantics.proofs.Alike.{alike_weighted, alike_reduct, alike_founded}
-use Rattle.semantics.proofs.Least.{conflict-least}
-use Rattle.search.specs.Admissible.{NoSuch, Candidate, LeastObjected}
+use Rattle.semantics.proofs.Least.{conflict_least}
+use Rattle.search.specs.Admissible.{NoSuch, Candidate, LeastObjected, undecided}
 use Rattle.search.proofs.Forced.{fits_any}
 use Rattle.grading.specs.Ranks.{grades, rank_among, ranks, ranks_of}
-use Rattle.grading.proofs.Ranking.{rank-keeps, grade_among, ranks_at, same_length, same_place, same-grades}
+use Rattle.grading.proofs.Ranking.{weighted-same, rank-keeps, grade_among, ranks_at, same_length, same_place, same-grades}
 
 module _ {G R : Type 0} (s : Scaled G R) where
-  -- rules that differ in their ranks alone mean the same
-  pub weighted-same : (xs ys : List PlainRule) (rows : List R) → by_place xs ≡ by_place ys → weighted s xs rows ≡ weighted s ys rows
-  unfolding weighted
-  weighted-same [] [] rows e = refl
-  weighted-same [] (y ∷ ys) rows e = absurd (omega (arith, ap length e))
-  weighted-same (x ∷ xs) [] rows e = absurd (omega (arith, ap length e))
-  weighted-same (x ∷ xs) (y ∷ ys) rows e =
-      let p : weigh x x.place ≡ weigh y y.place = cc in
-      let q : by_place xs ≡ by_place ys = cc in
-      ap₂ (λ (r : Rule ℕ) (P : List (Rule G)). record { head = r.head; pos = r.pos; neg = r.neg; grade = grade_in s rows r.grade } ∷ P) p (weighted-same xs ys rows q)
-
   -- foundedness does not look at grades or ranks
   pub founded-same : (w A : ℕ) (rules : List PlainRule) (rows : List R) → founded w (reduct A (weighted s rules rows)) A ≡ founded w (reduct A (by_rank rules)) A
   founded-same w A rules rows =
       alike_founded w (reduct A (weighted s rules rows)) (reduct A (by_rank rules)) (alike_reduct A (weighted s rules rows) (by_rank rules) (alike_weighted s (λ r. r.rank) rules rows)) A
 
--- every rule has the rank of its grade
-abbrev pub Ranked : {G R : Type 0} → Scaled G R → List R → List PlainRule → Type 0
-Ranked s rows rules = (q : PlainRule) → Has rules q → q.rank ≡ rank_among s.order (grades s rows rules) (grade_of s rows q)
+  -- so the objection is told by the ranks and the worst grade
+  pub objection_by_rank : (A : ℕ) (rules : List PlainRule) (rows : List R) → objection s.order width (reduct A (weighted s rules rows)) A ≡ cond (founded width (reduct A (by_rank rules)) A) (worst s.order A (reduct A (weighted s rules rows))) s.order.top
+  unfolding objection
+  objection_by_rank A rules rows = ap (λ b. cond b (worst s.order A (reduct A (weighted s rules rows))) s.order.top) (founded-same width A rules rows)
 
-pub ranked_there : {G R : Type 0} (s : Scaled G R) (rows : List R) (xs ys : List PlainRule) → by_place ys ≡ by_place xs → ranks ys ≡ ranks_of s rows xs → Ranked s rows ys
+-- every rule has the rank of its grade
+abbrev Ranked : {G R : Type 0} → Scaled G R → List R → List PlainRule → Type 0
+Ranked s rows rules = (q : PlainRule) → Contains rules q → q.rank ≡ rank_among s.order (grades s rows rules) (grade_of s rows q)
+
+ranked_there : {G R : Type 0} (s : Scaled G R) (rows : List R) (xs ys : List PlainRule) → by_place ys ≡ by_place xs → ranks ys ≡ ranks_of s rows xs → Ranked s rows ys
 ranked_there s rows xs ys e r q h =
     let i = h.0 in
-    let here : get_or ys i q ≡ q = h.2 q in
+    let here : get_or ys i q ≡ q = h.2 in
     ap (λ (x : PlainRule). x.rank) (sym here) ∙ sym (get_or-map (λ (x : PlainRule). x.rank) ys i q 0 h.1)
     ∙ ap (λ (ns : List ℕ). get_or ns i 0) r
     ∙ ranks_at s rows xs i q (omega (arith, h.1, same_length ys xs e)) (same_place ys xs e i q h.1 (sym here))
@@ -58,7 +52,7 @@ module _ {G R : Type 0} (s : Scaled G R) (rules : List PlainRule) (rows : List R
   held_against A = objection s.order width (reduct A P) A
 
   -- the worst rule that A breaks is no worse than the worst that B breaks
-  worst-least : (A B : ℕ) → ((q : PlainRule) → Has rules q → Broken A q → (p : PlainRule) × Has rules p × Broken B p × (q.rank ≤ p.rank)) → s.order.at_most (worst s.order A (reduct A P)) (worst s.order B (reduct B P)) ≡ true
+  worst-least : (A B : ℕ) → ((q : PlainRule) → Contains rules q → Broken A q → (p : PlainRule) × Contains rules p × Broken B p × (q.rank ≤ p.rank)) → s.order.at_most (worst s.order A (reduct A P)) (worst s.order B (reduct B P)) ≡ true
   unfolding worst weighted positive
   worst-least A B least = le_by_cuts s.order _ _ λ h cut t.
       let a = greatest-out s.order h cut (breaks A) (λ r. r.grade) (reduct A P) t in
@@ -73,13 +67,13 @@ module _ {G R : Type 0} (s : Scaled G R) (rules : List PlainRule) (rows : List R
       let c = broken_in B P (weigh p.0 k) (graded_in (grade_of s rows) rules p.0 p.1) p.2 in
       greatest_in s.order h cut (breaks B) (λ r. r.grade) (reduct B P) (positive (weigh p.0 k)) c.0 c.1 up
 
-  candidate : (A : ℕ) → A < 2 ^ width → founded width (reduct A P) A ≡ true → Candidate rules 0 0 A
+  candidate : (A : ℕ) → A < 2 ^ width → founded width (reduct A P) A ≡ true → Candidate rules undecided A
   candidate A l t = record { below = l; founds = sym (founded-same s width A rules rows) ∙ t; fits = fits_any A }
 
   -- the set objected to least gives the conflict
-  pub least-conflict : (A : ℕ) → LeastObjected rules 0 0 A → held_against A ≡ conflict s.order width P
+  least-conflict : (A : ℕ) → LeastObjected rules undecided A → held_against A ≡ conflict s.order width P
   least-conflict A a =
-      let least = conflict-least s.order width P in
+      let least = conflict_least s.order width P in
       let at = least.attained 0 (omega arith) refl in
       let B = at.0 in
       s.order.antisymmetric (held_against A) (conflict s.order width P)
@@ -93,7 +87,21 @@ module _ {G R : Type 0} (s : Scaled G R) (rules : List PlainRule) (rows : List R
       (least.below A a.candidate.below refl)
 
   -- where no set is founded the conflict is the top
-  pub no_conflict : NoSuch (Candidate rules 0 0) → s.order.top ≡ conflict s.order width P
+  no_conflict : NoSuch (Candidate rules undecided) → s.order.top ≡ conflict s.order width P
   no_conflict none =
-      let at = (conflict-least s.order width P).attained 0 (omega arith) refl in
+      let at = (conflict_least s.order width P).attained 0 (omega arith) refl in
       ⊎_elim (λ t. absurd (none at.0 (candidate at.0 at.1 t))) (λ t. sym (objection_unfounded s.order width (reduct at.0 P) at.0 t) ∙ at.3) (cases_Bool (founded width (reduct at.0 P) at.0))
+
+-- what the ranks find, where `after` are the rules of `before` with the ranks of their grades
+module _ {G R : Type 0} (s : Scaled G R) (rows : List R) (before after : List PlainRule) (kept : by_place after ≡ by_place before) (ranked : ranks after ≡ ranks_of s rows before) where
+  abbrev Sought : G → Type 0
+  Sought g = g ≡ conflict s.order width (weighted s before rows)
+
+  sought : (g : G) → g ≡ conflict s.order width (weighted s after rows) → Sought g
+  sought g e = e ∙ ap (λ (P : List (Rule G)). conflict s.order width P) (weighted-same s rows after before kept)
+
+  pub conflict_found : (A : ℕ) → LeastObjected after undecided A → Sought (objection s.order width (reduct A (weighted s after rows)) A)
+  conflict_found A a = sought _ (least-conflict s after rows (ranked_there s rows before after kept ranked) A a)
+
+  pub conflict_unfound : NoSuch (Candidate after undecided) → Sought s.order.top
+  conflict_unfound none = sought _ (no_conflict s after rows (ranked_there s rows before after kept ranked) none)

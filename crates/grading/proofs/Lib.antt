@@ -1,8 +1,9 @@
+pub mod Extremes
 pub mod Laying
 pub mod Weakest
 pub mod Fronts
 pub mod Stepping
 pub mod Settling
-pub mod Worst
+pub mod Folding
 pub mod Ranking
 pub mod Conflicts

@@ -1,7 +1,6 @@
 -- Ranks in place of grades.
-use Rattle.std.specs.Prelude.{ℕ, not, List, map, length}
+use Rattle.std.specs.Prelude.{ℕ, not, List, map, length, filter}
 use Rattle.scale.specs.Laws.{Order, Scaled}
-use Rattle.semantics.specs.Rules.{those}
 use Rattle.semantics.specs.Plain.{grade_of}
 use Rattle.semantics.specs.declared.rule.PlainRule.{PlainRule}
 
@@ -11,7 +10,7 @@ grades s rows rules = map (grade_of s rows) rules
 
 -- the rank of a grade among others: how many of them are below it
 unfoldable pub rank_among : {G : Type 0} → Order G → List G → G → ℕ
-rank_among o gs g = length (those (λ x. not (o.at_most g x)) gs)
+rank_among o gs g = length (filter (λ x. not (o.at_most g x)) gs)
 
 -- the ranks that the rules have
 abbrev pub ranks : List PlainRule → List ℕ

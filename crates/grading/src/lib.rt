@@ -3,7 +3,8 @@
 #![tactic(auto)]
 
 pub mod conflict;
-pub mod objection;
+mod objection;
 pub mod reading;
 pub mod rows;
-pub mod step;
+pub mod rules;
+mod step;

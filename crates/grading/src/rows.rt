@@ -8,10 +8,9 @@ use scale::scale::Scale;
 pub fn grade_at<S: Scale>(rows: &[S::Row], place: usize) -> S
     ensures { result ≡ grade_in S.Scale.scale rows.now place }
 {
-    if place < rows.len() {
-        S::read(rows[place])
-    } else {
-        S::bottom()
+    match rows.get(place) {
+        Some(row) => S::read(*row),
+        None => S::bottom(),
     }
 }
 
@@ -19,9 +18,6 @@ pub fn grade_at<S: Scale>(rows: &[S::Row], place: usize) -> S
 pub fn lay_over<R: Copy>(into: &mut [R], rows: &[R])
     ensures { into.new ≡ over rows.now into.old }
 {
-    if rows.len() < into.len() {
-        into[0..rows.len()].copy_from_slice(rows);
-    } else {
-        into.copy_from_slice(&rows[0..into.len()]);
-    }
+    let shared = rows.len().min(into.len());
+    into[..shared].copy_from_slice(&rows[..shared]);
 }

@@ -1,12 +1,15 @@
--- What the reference says to a conflict call, a mend and a rewind.
-use Rattle.std.proofs.Common.{◌≡◌, ℕ, ◌↔◌, List, sym, refl, ap, ◌∙◌}
-use Rattle.scale.specs.Laws.{Order}
+-- What the reference says to a conflict call and to a mend.
+use Rattle.std.proofs.Common.{◌≡◌, ℕ, ◌↔◌, List, sym, ap, ◌∙◌}
+use Rattle.scale.specs.Laws.{Order, Scaled}
 use Rattle.semantics.specs.Rules.{Rule, conflict}
 use Rattle.semantics.specs.Sets.{width}
 use Rattle.semantics.specs.Statements.{Fits, Graded}
 use Rattle.semantics.proofs.Objections.{free_of_conflict, stable_frees}
-use Rattle.rulebase.specs.declared.call.Call.TheVariants.{Cut, Mend, Rewind, Conflict}
-use Rattle.rulebase.specs.Calls.{SomeStable}
+use Rattle.rulebase.specs.declared.call.Call.TheVariants.{Cut, Mend, Conflict}
+use Rattle.rulebase.specs.declared.base.RuleBase.{RuleBase}
+use Rattle.rulebase.specs.Calls.{SomeStable, rules_in, rows_in, state_in, cut_records, cut_rows}
+use Rattle.rulebase.specs.Runs.{Performs}
+use Rattle.rulebase.specs.Tables.{count_of}
 use Rattle.rulebase.specs.Reference.{State, Reply, refused, done, emptied, mended, model, no_more, grade, held, cut_count, reply, next}
 
 -- the conflict is the bottom exactly where some set is stable
@@ -14,18 +17,6 @@ pub conflict-bottom : {G : Type 0} (o : Order G) (P : List (Rule G)) (g : G) →
 conflict-bottom o P g e fits graded = (λ b. free_of_conflict o width P fits graded (sym e ∙ b), λ a. e ∙ stable_frees o width P fits a.0 a.2)
 
 module _ {G : Type 0} (o : Order G) (w : ℕ) (st : State G) where
-  pub rewind_reply : done ≡ reply o w st Rewind
-  unfolding reply
-  rewind_reply = refl
-
-  pub conflict-reply : (g : G) → g ≡ conflict o w (held st.places) → grade g ≡ reply o w st Conflict
-  unfolding reply
-  conflict-reply g e = ap grade e
-
-  pub conflict-next : st ≡ next o w st Conflict
-  unfolding next
-  conflict-next = refl
-
   -- the grade and the count that an answer tells
   abbrev grade_told : G → Reply G → G
   grade_told d (grade g) = g
@@ -58,3 +49,16 @@ module _ {G : Type 0} (o : Order G) (w : ℕ) (st : State G) where
     pub mend_next : next o w st (Cut g) ≡ next o w st Mend
     unfolding next
     mend_next = ap (λ (h : G). next o w st (Cut h)) is_conflict
+
+-- and does to a rule base what a mend does
+pub cut_mends : {G R : Type 0} (s : Scaled G R) (b b' : RuleBase G R) (g : G) (n : ℕ) → grade g ≡ reply s.order width (state_in s b) Conflict → Performs s b (Cut g) (emptied n) b' → Performs s b Mend (mended g n) b'
+cut_mends s b b' g n e cut =
+    let same = is_conflict s.order width (state_in s b) g e in
+    let places = count_of (rules_in b) (rows_in b) in
+    record {
+      answer = mend_reply s.order width (state_in s b) g e n cut.answer;
+      state = cut.state ∙ mend_next s.order width (state_in s b) g e;
+      rules = cut.rules ∙ ap (λ h. cut_records s h places (rules_in b) (rows_in b)) same;
+      rows = cut.rows ∙ ap (λ h. cut_rows s h places (rules_in b) (rows_in b)) same;
+      tables = cut.tables;
+    }

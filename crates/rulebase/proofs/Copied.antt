@@ -1,16 +1,60 @@
 -- The rules held, copied place by place.
-use Rattle.std.proofs.Common.{◌≡◌, ℕ, ◌+◌, ◌<◌, ◌≤◌, List, [], ◌∷◌, ◌++◌, length, get_or, take, set, Some, None, Option, sym, refl, ap, ◌∙◌, ap₂, append-nil, arith, length-set}
-use Rattle.std.proofs.lemmas.List.{take_more, take_more_set}
+use Rattle.std.proofs.Common.{◌≡◌, ℕ, ◌+◌, ◌<◌, ◌≤◌, List, [], ◌∷◌, ◌++◌, length, get_or, take, Some, None, Option, sym, refl, ap, ◌∙◌, ap₂, append-nil, arith, length-append, length-take, get_or-take, Bor, Iter}
+use Rattle.std.proofs.iter.Yields.{fronts}
+use Rattle.std.proofs.lemmas.Iterator.{YieldsList, YieldsList-from_slice, YieldsList-from_zip, YieldsList-from_take, zips}
+use Rattle.std.proofs.lemmas.Iterator.Consumers.{YieldsList-from_enumerate, YieldsList-turn, YieldsList-end}
+use Rattle.std.proofs.lemmas.List.{take_more, get_or_read, map-append}
+use Rattle.std.proofs.lemmas.List.FromFn.{length-enumerate_from, get_or-enumerate_from}
+use Rattle.std.proofs.lemmas.Slice.Zip.{length-zip, get_or-zip}
+use Rattle.std.specs.Iterator.{Yields}
+use Rattle.std.specs.Iterator.Adapters.{enumerate_source, enumerate_count, enumerate_steps, take_source, take_count, take_steps, zip_first, zip_second}
+use Rattle.std.specs.declared.iter.Enumerate.{Enumerate}
+use Rattle.std.specs.declared.iter.Take.{Take}
+use Rattle.std.specs.declared.iter.Zip.{Zip}
+use Rattle.std.specs.List.{enumerate_from, zip}
+use Rattle.std.specs.Slice.Iter.{iter_rest}
 use Rattle.scale.specs.Laws.{Scaled}
 use Rattle.semantics.specs.Rules.{Rule}
-use Rattle.semantics.specs.Plain.{weigh, grade_of, weighted}
+use Rattle.semantics.specs.Plain.{weigh, grade_in, grade_of, weighted}
 use Rattle.semantics.specs.declared.rule.PlainRule.{PlainRule}
-use Rattle.grading.proofs.Fronts.{map_push}
-use Rattle.rulebase.specs.Held.{weighed_at}
 use Rattle.rulebase.specs.Reference.{held}
-use Rattle.rulebase.specs.Tables.{most_places, count_of, empty_record, place_of, pairs_of, places_of}
+use Rattle.rulebase.specs.Tables.{most_places, count_of, place_of, pairs_of, places_of}
 use Rattle.rulebase.specs.declared.rule.Rule.{Rule as Record}
-use Rattle.rulebase.proofs.Places.{length_pairs, get_or-pairs, places_are}
+use Rattle.rulebase.proofs.Places.{place_grade, length_pairs, get_or-pairs, places_are}
+
+-- the records and the rows of the places, each with its number
+abbrev pub numbered : {A B : Type 0} → List A → List B → List (ℕ × (A × B))
+numbered rules rows = enumerate_from 0 (take most_places (zip rules rows))
+
+module _ {A B : Type 0} (rules : List A) (rows : List B) where
+  pub length-numbered : length (numbered rules rows) ≡ count_of rules rows
+  length-numbered = omega (arith, length-enumerate_from 0 (take most_places (zip rules rows)), length-take most_places (zip rules rows), length-zip rules rows)
+
+  pub get_or-numbered : (k : ℕ) (d : ℕ × (A × B)) → k < count_of rules rows → get_or (numbered rules rows) k d ≡ (k, (get_or rules k d.1.0, get_or rows k d.1.1))
+  get_or-numbered k d l =
+      get_or-enumerate_from 0 (take most_places (zip rules rows)) k d (omega (arith, length-enumerate_from 0 (take most_places (zip rules rows)), length-numbered))
+      ∙ ap₂ (λ j p. (j, p)) (omega arith) (get_or-take most_places (zip rules rows) k d.1 (omega arith) ∙ get_or-zip rules rows k d.1 (omega arith) (omega arith))
+
+  -- a loop over them, which has yielded ys
+  module _ (it : Enumerate (Take (Zip (Iter A) (Iter B)))) (first : iter_rest (zip_first (take_source (enumerate_source it))) ≡ rules) (second : iter_rest (zip_second (take_source (enumerate_source it))) ≡ rows) (most : take_count (enumerate_source it) ≡ most_places) (begins : enumerate_count it ≡ 0) where
+    abbrev loop_steps : Enumerate (Take (Zip (Iter A) (Iter B))) → Option (ℕ × (Bor A × Bor B)) → Enumerate (Take (Zip (Iter A) (Iter B))) → Type 0
+    loop_steps = enumerate_steps (take_steps (zips fronts fronts))
+
+    loop_yields : YieldsList loop_steps (λ p. (p.0, (p.1.0.now, p.1.1.now))) it (numbered rules rows)
+    loop_yields = YieldsList-from_enumerate (YieldsList-from_take most_places (YieldsList-from_zip (YieldsList-from_slice rules first) (YieldsList-from_slice rows second)) most) begins
+
+    module _ (ys : List (ℕ × (Bor A × Bor B))) (t u : Enumerate (Take (Zip (Iter A) (Iter B)))) (y : Yields loop_steps it ys t) (r : Option (ℕ × (Bor A × Bor B))) (goes : loop_steps t r u) where
+      -- the place that it has come to
+      pub loop_turn : (p : ℕ × (Bor A × Bor B)) → r ≡ Some p → (p.0 ≡ length ys) × (length ys < count_of rules rows) × ((d : A) → p.1.0.now ≡ get_or rules (length ys) d) × ((d : B) → p.1.1.now ≡ get_or rows (length ys) d)
+      loop_turn p e =
+          let turn = YieldsList-turn loop_yields ys t y r u p e goes in
+          let long = length-numbered in
+          let inside : length ys < count_of rules rows = omega (arith, turn.0) in
+          let is = turn.1 ∙ get_or-numbered (length ys) _ inside in
+          (ap (λ q. q.0) is, inside, get_or_read rules (length ys) p.1.0.now (omega arith) (ap (λ q. q.1.0) is), get_or_read rows (length ys) p.1.1.now (omega arith) (ap (λ q. q.1.1) is))
+
+      pub loop_end : r ≡ None → length ys ≡ count_of rules rows
+      loop_end e = (YieldsList-end loop_yields ys t y r u e goes).1 ∙ length-numbered
 
 pub held-append : {G : Type 0} (ps qs : List (Option (Rule G))) → held (ps ++ qs) ≡ held ps ++ held qs
 held-append [] qs = refl
@@ -19,44 +63,40 @@ held-append (Some r ∷ ps) qs = ap (λ P. r ∷ P) (held-append ps qs)
 
 module _ {G R : Type 0} (s : Scaled G R) where
   module _ (rules : List Record) (rows : List R) where
-    -- the rules held in the places below i lie in the first `count` of `out`
-    pub record Copied (i count : ℕ) (out : List PlainRule) : Type 0 where
-      pub long : length out ≡ most_places
-      pub few : count ≤ i
-      pub same : weighted s (take count out) rows ≡ held (take i (pairs_of s rules rows))
+    -- the rules read are those held in the places below i
+    pub record Copied (i : ℕ) (out : List PlainRule) : Type 0 where
+      pub few : length out ≤ i
+      pub same : weighted s out rows ≡ held (take i (pairs_of s rules rows))
 
-    pub copied_none : (out : List PlainRule) → length out ≡ most_places → Copied 0 0 out
+    pub copied_none : Copied 0 []
     unfolding weighted
-    copied_none out l = record { long = l; few = omega arith; same = refl }
+    copied_none = record { few = omega arith; same = refl }
 
-    module _ (i count : ℕ) (out : List PlainRule) (inv : Copied i count out) (l : i < length rules) (m : i < length rows) where
-      -- what the place holds
-      abbrev here : Option (Rule G)
-      here = place_of s (get_or rules i empty_record) (get_or rows i (s.row_of s.order.bottom))
-
-      held_more : held (take (i + 1) (pairs_of s rules rows)) ≡ held (take i (pairs_of s rules rows)) ++ held (here ∷ [])
+    module _ (i : ℕ) (out : List PlainRule) (inv : Copied i out) (l : i < count_of rules rows) (r : Record) (x : R) (first : (d : Record) → r ≡ get_or rules i d) (second : (d : R) → x ≡ get_or rows i d) where
+      held_more : held (take (i + 1) (pairs_of s rules rows)) ≡ held (take i (pairs_of s rules rows)) ++ held (place_of s r x ∷ [])
       held_more =
           ap held (take_more (pairs_of s rules rows) i None (let long = length_pairs s rules rows in omega arith))
           ∙ held-append (take i (pairs_of s rules rows)) (get_or (pairs_of s rules rows) i None ∷ [])
-          ∙ ap (λ p. held (take i (pairs_of s rules rows)) ++ held (p ∷ [])) (get_or-pairs s rules rows i empty_record _ None l m)
+          ∙ ap (λ p. held (take i (pairs_of s rules rows)) ++ held (p ∷ [])) (get_or-pairs s rules rows i r x None (omega arith) (omega arith) ∙ ap₂ (place_of s) (sym (first r)) (sym (second x)))
 
-      pub copied_more : (r : PlainRule) → i < most_places → weighed_at s rows (Some r) ≡ here → Copied (i + 1) (count + 1) (set out count r)
+      pub copied_more : (q : PlainRule) (g : G) (out' : List PlainRule) → out' ≡ out ++ q ∷ [] → q.place ≡ i → Some (weigh q g) ≡ place_of s r x → Copied (i + 1) out'
       unfolding weighted
-      copied_more r b e = record {
-        long = length-set out count r ∙ inv.long;
-        few = omega arith;
-        same =
-            ap (λ rs. weighted s rs rows) (take_more_set out count r (omega arith)) ∙ map_push (λ (q : PlainRule). weigh q (grade_of s rows q)) (take count out) r
-            ∙ ap₂ (λ P p. P ++ held (p ∷ [])) inv.same e
-            ∙ sym held_more;
-      }
+      copied_more q g out' pushed at e =
+          let is : grade_of s rows q ≡ g = ap (grade_in s rows) at ∙ ap s.read_of (sym (second _)) ∙ sym (place_grade s r x (weigh q g) e) in
+          record {
+            few = let few = inv.few in omega (arith, ap length pushed, length-append {A = PlainRule} out (q ∷ []));
+            same =
+                ap (λ o. weighted s o rows) pushed
+                ∙ map-append (λ (p : PlainRule). weigh p (grade_of s rows p)) out (q ∷ [])
+                ∙ ap₂ (λ P p. P ++ held (p ∷ [])) inv.same (ap (λ (h : G). Some (weigh q h)) is ∙ e)
+                ∙ sym held_more;
+          }
 
-      pub copied_past : weighed_at s rows None ≡ here → Copied (i + 1) count out
+      pub copied_past : None ≡ place_of s r x → Copied (i + 1) out
       copied_past e = record {
-        long = inv.long;
-        few = omega arith;
+        few = let few = inv.few in omega arith;
         same = inv.same ∙ sym (append-nil _) ∙ ap (λ p. held (take i (pairs_of s rules rows)) ++ held (p ∷ [])) e ∙ sym held_more;
       }
 
-    pub copied_all : (i count : ℕ) (out : List PlainRule) → i ≡ count_of rules rows → Copied i count out → weighted s (take count out) rows ≡ held (places_of s rules rows)
-    copied_all i count out e inv = inv.same ∙ ap (λ n. held (take n (pairs_of s rules rows))) e ∙ sym (ap held (places_are s rules rows))
+    pub copied_all : (i : ℕ) (out : List PlainRule) → i ≡ count_of rules rows → Copied i out → weighted s out rows ≡ held (places_of s rules rows)
+    copied_all i out e inv = inv.same ∙ ap (λ n. held (take n (pairs_of s rules rows))) e ∙ sym (ap held (places_are s rules rows))

@@ -1,5 +1,5 @@
 -- A cut, place by place.
-use Rattle.std.proofs.Common.{◌≡◌, ℕ, zero, suc, ◌+◌, ◌<◌, ◌≤◌, min, Bool, true, false, cond, ◌&&◌, List, [], ◌∷◌, map, length, get_or, take, drop, set, None, Option, sym, refl, ap, ◌∙◌, add-one, arith}
+use Rattle.std.proofs.Common.{◌≡◌, ℕ, zero, suc, ◌+◌, ◌<◌, ◌≤◌, min, Bool, true, false, cond, ◌&&◌, List, [], ◌∷◌, map, length, get_or, take, set, Some, None, Option, MatchOption, sym, refl, ap, ◌∙◌, ap₂, add-one, arith}
 use Rattle.scale.specs.Laws.{Scaled}
 use Rattle.semantics.specs.Sets.{width}
 use Rattle.semantics.specs.Rules.{Rule}
@@ -7,93 +7,44 @@ use Rattle.rulebase.specs.declared.rule.Rule.{Rule as Record}
 use Rattle.rulebase.specs.declared.call.Call.TheVariants.{Cut}
 use Rattle.rulebase.specs.declared.cursor.Cursor.{Cursor}
 use Rattle.rulebase.specs.declared.cursor.Cursor.TheVariants.{Stale}
-use Rattle.rulebase.specs.Reference.{stale, emptied, cut_place, cut_of, cut_count, reply, next}
+use Rattle.rulebase.specs.declared.holding.Entry.{Entry}
+use Rattle.rulebase.specs.Entries.{entered}
+use Rattle.rulebase.specs.Reference.{stale, emptied, at, cut_place, cut_of, cut_count, reply, next}
 use Rattle.rulebase.specs.Tables.{most_places, count_of, holds, place_of, pairs_of, places_of, state_of, empty_record, record_of, row_for, Exact}
-use Rattle.rulebase.specs.Calls.{is_cut, is_cut_at, cut_records, cut_rows}
+use Rattle.rulebase.specs.Calls.{beside, is_cut, cut_records, cut_rows}
+use Rattle.rulebase.proofs.Beside.{length-beside, drop-beside, get_or-beside, beside_test}
 use Rattle.rulebase.specs.Runs.{Stays}
-use Rattle.rulebase.proofs.Places.{places_are}
+use Rattle.rulebase.proofs.Places.{place_grade, get_or-places, places_are}
 use Rattle.rulebase.proofs.Staying.{stays_as}
-use Rattle.std.proofs.lemmas.Bool.{lt-ltb}
-use Rattle.semantics.specs.Plain.{grade_in}
-
-through : {A B : Type 0} (f : A → B) (b : Bool) (x y : A) → f (cond b x y) ≡ cond b (f x) (f y)
-through f true x y = refl
-through f false x y = refl
 
 at_most_one : (b : Bool) → cond {A = ℕ} b 1 0 ≤ 1
 at_most_one true = omega arith
 at_most_one false = omega arith
 
 module _ {G R : Type 0} (s : Scaled G R) (g : G) where
-  pub length-cut_records : (n : ℕ) (rules : List Record) (rows : List R) → length (cut_records s g n rules rows) ≡ length rules
-  unfolding cut_records
-  length-cut_records zero rules rows = refl
-  length-cut_records (suc n) [] rows = refl
-  length-cut_records (suc n) (r ∷ rules) [] = refl
-  length-cut_records (suc n) (r ∷ rules) (x ∷ rows) = ap suc (length-cut_records n rules rows)
+  -- the two tables keep their lengths
+  pub long_records : (n : ℕ) (rules : List Record) (rows : List R) → length (cut_records s g n rules rows) ≡ length rules
+  long_records n rules rows = length-beside _ n rules rows
 
-  pub length-cut_rows : (n : ℕ) (rules : List Record) (rows : List R) → length (cut_rows s g n rules rows) ≡ length rows
-  unfolding cut_rows
-  length-cut_rows zero rules rows = refl
-  length-cut_rows (suc n) [] rows = refl
-  length-cut_rows (suc n) (r ∷ rules) [] = refl
-  length-cut_rows (suc n) (r ∷ rules) (x ∷ rows) = ap suc (length-cut_rows n rules rows)
+  pub long_rows : (n : ℕ) (rules : List Record) (rows : List R) → length (cut_rows s g n rules rows) ≡ length rows
+  long_rows n rules rows = length-beside _ n rows rules
 
   pub count_cut : (n : ℕ) (rules : List Record) (rows : List R) → count_of (cut_records s g n rules rows) (cut_rows s g n rules rows) ≡ count_of rules rows
-  count_cut n rules rows = ap (λ a. min (min a (length (cut_rows s g n rules rows))) most_places) (length-cut_records n rules rows) ∙ ap (λ b. min (min (length rules) b) most_places) (length-cut_rows n rules rows)
+  count_cut n rules rows = ap₂ (λ a b. min (min a b) most_places) (long_records n rules rows) (long_rows n rules rows)
 
-  -- what lies beyond stays
-  beyond-records : (n : ℕ) (rules : List Record) (rows : List R) → drop n (cut_records s g n rules rows) ≡ drop n rules
-  unfolding cut_records
-  beyond-records zero rules rows = refl
-  beyond-records (suc n) [] rows = refl
-  beyond-records (suc n) (r ∷ rules) [] = refl
-  beyond-records (suc n) (r ∷ rules) (x ∷ rows) = beyond-records n rules rows
+  -- the test of the code, at what a place holds
+  module _ (p : Option (Entry G)) {b : Bool} (tested : MatchOption p (b ≡ false) (λ e. b ≡ s.order.at_most e.grade g)) where
+    test_of : (r : Record) (x : R) → entered p ≡ place_of s r x → b ≡ is_cut s g r x
+    test_of r x is = go p (holds s r x) tested is (λ q e. place_grade s r x q (sym e ∙ is))
+      where
+        go : (p : Option (Entry G)) (h : Bool) → MatchOption p (b ≡ false) (λ e. b ≡ s.order.at_most e.grade g) → entered p ≡ cond h (Some (record { head = r.head; pos = r.pos; neg = r.neg; grade = s.read_of x })) None → ((q : Rule G) → entered p ≡ Some q → q.grade ≡ s.read_of x) → b ≡ (h && s.order.at_most (s.read_of x) g)
+        go None true t e same = grind arith
+        go None false t e same = t
+        go (Some q) true t e same = t ∙ ap (λ a. s.order.at_most a g) (same _ refl)
+        go (Some q) false t e same = grind arith
 
-  beyond-rows : (n : ℕ) (rules : List Record) (rows : List R) → drop n (cut_rows s g n rules rows) ≡ drop n rows
-  unfolding cut_rows
-  beyond-rows zero rules rows = refl
-  beyond-rows (suc n) [] rows = refl
-  beyond-rows (suc n) (r ∷ rules) [] = refl
-  beyond-rows (suc n) (r ∷ rules) (x ∷ rows) = beyond-rows n rules rows
-
-  -- the test of the code
-  pub test_at : (rules : List Record) (rows : List R) (k : ℕ) → k < length rules → is_cut_at s g rules rows k ≡ is_cut s g (get_or rules k empty_record) (get_or rows k (s.row_of s.order.bottom))
-  test_at rules rows k l = ap (λ b. (b && holds s (get_or rules k empty_record) (get_or rows k (s.row_of s.order.bottom))) && s.order.at_most (grade_in s rows k) g) (lt-ltb k (length rules) l)
-
-  -- the place after those that were cut is as it was
-  pub next_record : (n : ℕ) (rules : List Record) (rows : List R) (r : Record) → get_or (cut_records s g n rules rows) n r ≡ get_or rules n r
-  unfolding cut_records
-  next_record zero rules rows r = refl
-  next_record (suc n) [] rows r = refl
-  next_record (suc n) (a ∷ rules) [] r = refl
-  next_record (suc n) (a ∷ rules) (b ∷ rows) r = next_record n rules rows r
-
-  pub next_row : (n : ℕ) (rules : List Record) (rows : List R) (x : R) → get_or (cut_rows s g n rules rows) n x ≡ get_or rows n x
-  unfolding cut_rows
-  next_row zero rules rows x = refl
-  next_row (suc n) [] rows x = refl
-  next_row (suc n) (a ∷ rules) [] x = refl
-  next_row (suc n) (a ∷ rules) (b ∷ rows) x = next_row n rules rows x
-
-  -- one place more
-  records_more : (n : ℕ) (rules : List Record) (rows : List R) (r : Record) (x : R) → n < length rules → n < length rows → cut_records s g (suc n) rules rows ≡ cond (is_cut s g (get_or rules n r) (get_or rows n x)) (set (cut_records s g n rules rows) n empty_record) (cut_records s g n rules rows)
-  unfolding cut_records
-  records_more n [] rows r x p q = absurd (omega arith)
-  records_more n (a ∷ rules) [] r x p q = absurd (omega arith)
-  records_more zero (a ∷ rules) (b ∷ rows) r x p q = through (λ z. z ∷ rules) (is_cut s g a b) empty_record a
-  records_more (suc n) (a ∷ rules) (b ∷ rows) r x p q =
-      let here = cond (is_cut s g a b) empty_record a in
-      ap (λ l. here ∷ l) (records_more n rules rows r x (omega arith) (omega arith)) ∙ through (λ l. here ∷ l) (is_cut s g (get_or rules n r) (get_or rows n x)) (set (cut_records s g n rules rows) n empty_record) (cut_records s g n rules rows)
-
-  rows_more : (n : ℕ) (rules : List Record) (rows : List R) (r : Record) (x : R) → n < length rules → n < length rows → cut_rows s g (suc n) rules rows ≡ cond (is_cut s g (get_or rules n r) (get_or rows n x)) (set (cut_rows s g n rules rows) n (s.row_of s.order.bottom)) (cut_rows s g n rules rows)
-  unfolding cut_rows
-  rows_more n [] rows r x p q = absurd (omega arith)
-  rows_more n (a ∷ rules) [] r x p q = absurd (omega arith)
-  rows_more zero (a ∷ rules) (b ∷ rows) r x p q = through (λ z. z ∷ rows) (is_cut s g a b) (s.row_of s.order.bottom) b
-  rows_more (suc n) (a ∷ rules) (b ∷ rows) r x p q =
-      let here = cond (is_cut s g a b) (s.row_of s.order.bottom) b in
-      ap (λ l. here ∷ l) (rows_more n rules rows r x (omega arith) (omega arith)) ∙ through (λ l. here ∷ l) (is_cut s g (get_or rules n r) (get_or rows n x)) (set (cut_rows s g n rules rows) n (s.row_of s.order.bottom)) (cut_rows s g n rules rows)
+    pub test_at : (rules : List Record) (rows : List R) (k : ℕ) → k < count_of rules rows → entered p ≡ at (places_of s rules rows) k → b ≡ is_cut s g (get_or rules k empty_record) (get_or rows k (s.row_of s.order.bottom))
+    test_at rules rows k l e = test_of (get_or rules k empty_record) (get_or rows k (s.row_of s.order.bottom)) (e ∙ get_or-places s rules rows k empty_record (s.row_of s.order.bottom) None l)
 
   -- what a cut makes of one place
   pub place_cut : (r : Record) (x : R) → place_of s (cond (is_cut s g r x) empty_record r) (cond (is_cut s g r x) (s.row_of s.order.bottom) x) ≡ cut_place s.order width g (place_of s r x)
@@ -105,7 +56,7 @@ module _ {G R : Type 0} (s : Scaled G R) (g : G) where
       go false h b c = rw h (rw h refl)
 
   pub pairs-cut : (n : ℕ) (rules : List Record) (rows : List R) → take n (pairs_of s (cut_records s g n rules rows) (cut_rows s g n rules rows)) ≡ map (cut_place s.order width g) (take n (pairs_of s rules rows))
-  unfolding pairs_of cut_records cut_rows
+  unfolding pairs_of beside
   pairs-cut zero rules rows = refl
   pairs-cut (suc n) [] rows = refl
   pairs-cut (suc n) (r ∷ rules) [] = refl
@@ -142,7 +93,7 @@ module _ {G R : Type 0} (s : Scaled G R) (g : G) where
     pub few : count ≤ n
 
   pub cut-none : (rules : List Record) (rows : List R) → CutTo rules rows 0 rules rows 0
-  unfolding cut_records cut_rows
+  unfolding beside
   cut-none rules rows = record { records = refl; grades = refl; emptied = refl; few = omega arith }
 
   -- an entry that its place gives is so after a cut too
@@ -154,25 +105,18 @@ module _ {G R : Type 0} (s : Scaled G R) (g : G) where
       go true h false b = rw (h, b) (rw h at e)
       go false h b c = rw h (rw h at e)
 
-  exact-records : (n : ℕ) (rules : List Record) (rows : List R) → take n rules ≡ map record_of (take n (pairs_of s rules rows)) → take n (cut_records s g n rules rows) ≡ map record_of (map (cut_place s.order width g) (take n (pairs_of s rules rows)))
-  unfolding pairs_of cut_records
-  exact-records zero rules rows e = refl
-  exact-records (suc n) [] rows e = refl
-  exact-records (suc n) (r ∷ rules) [] e = e
-  exact-records (suc n) (r ∷ rules) (x ∷ rows) e =
-      let here : r ≡ record_of (place_of s r x) = cc in
-      let rest : take n rules ≡ map record_of (take n (pairs_of s rules rows)) = cc in
-      λ i. entry_cut record_of r x r here i ∷ exact-records n rules rows rest i
-
-  exact-rows : (n : ℕ) (rules : List Record) (rows : List R) → take n rows ≡ map (row_for s) (take n (pairs_of s rules rows)) → take n (cut_rows s g n rules rows) ≡ map (row_for s) (map (cut_place s.order width g) (take n (pairs_of s rules rows)))
-  unfolding pairs_of cut_rows
-  exact-rows zero rules rows e = refl
-  exact-rows (suc n) [] rows e = e
-  exact-rows (suc n) (r ∷ rules) [] e = refl
-  exact-rows (suc n) (r ∷ rules) (x ∷ rows) e =
-      let here : x ≡ row_for s (place_of s r x) = cc in
-      let rest : take n rows ≡ map (row_for s) (take n (pairs_of s rules rows)) = cc in
-      λ i. entry_cut (row_for s) r x x here i ∷ exact-rows n rules rows rest i
+  -- and so are all
+  entries_cut : (n : ℕ) (rules : List Record) (rows : List R) → take n rules ≡ map record_of (take n (pairs_of s rules rows)) → take n rows ≡ map (row_for s) (take n (pairs_of s rules rows)) → (take n (cut_records s g n rules rows) ≡ map record_of (map (cut_place s.order width g) (take n (pairs_of s rules rows)))) × (take n (cut_rows s g n rules rows) ≡ map (row_for s) (map (cut_place s.order width g) (take n (pairs_of s rules rows))))
+  unfolding pairs_of beside
+  entries_cut zero rules rows d e = (refl, refl)
+  entries_cut (suc n) [] [] d e = (refl, refl)
+  entries_cut (suc n) [] (x ∷ rows) d e = (refl, e)
+  entries_cut (suc n) (r ∷ rules) [] d e = (d, refl)
+  entries_cut (suc n) (r ∷ rules) (x ∷ rows) d e =
+      let record_here : r ≡ record_of (place_of s r x) = cc in
+      let row_here : x ≡ row_for s (place_of s r x) = cc in
+      let rest = entries_cut n rules rows (cc) (cc) in
+      (λ i. entry_cut record_of r x r record_here i ∷ rest.0 i, λ i. entry_cut (row_for s) r x x row_here i ∷ rest.1 i)
 
   -- a cut keeps tables exact
   pub exact-cut : (rules : List Record) (rows : List R) → Exact s rules rows → Exact s (cut_records s g (count_of rules rows) rules rows) (cut_rows s g (count_of rules rows) rules rows)
@@ -182,15 +126,16 @@ module _ {G R : Type 0} (s : Scaled G R) (g : G) where
       let first = places_are s rules rows in
       let after : map (cut_place s.order width g) (take n (pairs_of s rules rows)) ≡ places_of s (cut_records s g n rules rows) (cut_rows s g n rules rows) =
       ap (map (cut_place s.order width g)) (sym first) ∙ sym (places-cut rules rows) in
+      let entries = entries_cut n rules rows (e.records ∙ ap (map record_of) first) (e.grades ∙ ap (map (row_for s)) first) in
       record {
-        records = ap (λ m. take m (cut_records s g n rules rows)) same ∙ exact-records n rules rows (e.records ∙ ap (map record_of) first) ∙ ap (map record_of) after;
-        grades = ap (λ m. take m (cut_rows s g n rules rows)) same ∙ exact-rows n rules rows (e.grades ∙ ap (map (row_for s)) first) ∙ ap (map (row_for s)) after;
+        records = ap (λ m. take m (cut_records s g n rules rows)) same ∙ entries.0 ∙ ap (map record_of) after;
+        grades = ap (λ m. take m (cut_rows s g n rules rows)) same ∙ entries.1 ∙ ap (map (row_for s)) after;
       }
 
 -- A cut that has come to place n.
 module _ {G R : Type 0} {s : Scaled G R} {g : G} {rules : List Record} {rows : List R} {n : ℕ} {rules' : List Record} {rows' : List R} {count : ℕ} (h : CutTo s g rules rows n rules' rows' count) where
   pub cut_lengths : (length rules' ≡ length rules) × (length rows' ≡ length rows)
-  cut_lengths = (ap length h.records ∙ length-cut_records s g n rules rows, ap length h.grades ∙ length-cut_rows s g n rules rows)
+  cut_lengths = (ap length h.records ∙ long_records s g n rules rows, ap length h.grades ∙ long_rows s g n rules rows)
 
   pub cut-same : {rules'' : List Record} {rows'' : List R} {count'' : ℕ} → rules'' ≡ rules' → rows'' ≡ rows' → count'' ≡ count → CutTo s g rules rows n rules'' rows'' count''
   cut-same a b e = let few = h.few in record { records = a ∙ h.records; grades = b ∙ h.grades; emptied = e ∙ h.emptied; few = omega arith }
@@ -202,12 +147,12 @@ module _ {G R : Type 0} {s : Scaled G R} {g : G} {rules : List Record} {rows : L
       let a : n < length rules = omega arith in
       let b : n < length rows = omega arith in
       let here : t ≡ is_cut s g (get_or rules n empty_record) (get_or rows n x) =
-      e ∙ (λ i. is_cut s g (get_or (h.records i) n empty_record) (get_or (h.grades i) n x)) ∙ (λ i. is_cut s g (next_record s g n rules rows empty_record i) (next_row s g n rules rows x i)) in
+      e ∙ (λ i. is_cut s g (get_or (h.records i) n empty_record) (get_or (h.grades i) n x)) ∙ (λ i. is_cut s g (get_or-beside (λ r y. cond (is_cut s g r y) empty_record r) n rules rows empty_record i) (get_or-beside (λ y r. cond (is_cut s g r y) x y) n rows rules x i)) in
       let most = at_most_one t in
       let few = h.few in
       record {
-        records = (λ i. cond (here i) (set (h.records i) n empty_record) (h.records i)) ∙ sym (records_more s g n rules rows empty_record x a b) ∙ ap (λ m. cut_records s g m rules rows) (sym (add-one n));
-        grades = (λ i. cond (here i) (set (h.grades i) n x) (h.grades i)) ∙ sym (rows_more s g n rules rows empty_record x a b) ∙ ap (λ m. cut_rows s g m rules rows) (sym (add-one n));
+        records = (λ i. cond (here i) (set (h.records i) n empty_record) (h.records i)) ∙ sym (beside_test (is_cut s g) empty_record n rules rows empty_record x a b) ∙ ap (λ m. cut_records s g m rules rows) (sym (add-one n));
+        grades = (λ i. cond (here i) (set (h.grades i) n x) (h.grades i)) ∙ sym (beside_test (λ y r. is_cut s g r y) x n rows rules x empty_record b a) ∙ ap (λ m. cut_rows s g m rules rows) (sym (add-one n));
         emptied = (λ i. h.emptied i + cond {A = ℕ} (here i) 1 0) ∙ sym (emptied_more s g n rules rows empty_record x a b) ∙ ap (λ m. cut_count s.order width g (take m (pairs_of s rules rows))) (sym (add-one n));
         few = omega arith;
       }
@@ -224,10 +169,12 @@ module _ {G R : Type 0} {s : Scaled G R} {g : G} {rules : List Record} {rows : L
     cut-stays =
         let n = count_of rules rows in
         stays_as s rules rows cut_records_lem cut_rows_lem (record {
-          rules_length = length-cut_records s g n rules rows;
-          rows_length = length-cut_rows s g n rules rows;
-          rules_rest = beyond-records s g n rules rows;
-          rows_rest = beyond-rows s g n rules rows;
+          rest = record {
+            rules_length = long_records s g n rules rows;
+            rows_length = long_rows s g n rules rows;
+            rules_rest = drop-beside _ n rules rows;
+            rows_rest = drop-beside _ n rows rules;
+          };
           exact = exact-cut s g rules rows;
         })
 

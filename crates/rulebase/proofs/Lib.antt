@@ -1,8 +1,7 @@
 pub mod Places
 pub mod Setting
-pub mod Replies
-pub mod Entering
 pub mod Staying
+pub mod Beside
 pub mod Cuts
 pub mod Taken
 pub mod Machines
@@ -10,7 +9,6 @@ pub mod AsMachine
 pub mod Copied
 pub mod Upcoming
 pub mod ReadOut
-pub mod Fetches
 pub mod Conflicts
 pub mod InFront
 pub mod RunLoop

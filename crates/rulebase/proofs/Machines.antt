@@ -1,18 +1,19 @@
 -- A machine seen through the rules that it holds and where their list of stable sets stands. The laws over lists of calls
 -- are proved of every such machine.
 use Rattle.std.proofs.Common.{◌≡◌, ℕ, suc, ◌+◌, ◌^◌, ◌<◌, true, not, ◌⊎◌, ◌↔◌, List, [], ◌∷◌, ◌++◌, map, length, get_or, take, drop, Some, None, Option, sym, refl, ap, ◌∙◌, subst, ⊎_elim, arith}
-use Rattle.std.specs.List.{range_with_len}
+use Rattle.std.proofs.Math.Seq.{take-nil}
+use Rattle.std.specs.List.{slice_get, range_with_len}
 use Rattle.std.proofs.lemmas.List.FromFn.{length-map-range_with_len, get_or-map-range_with_len}
 use Rattle.scale.specs.Laws.{Order, above}
 use Rattle.semantics.specs.Sets.{has}
 use Rattle.semantics.specs.Rules.{Rule, Among, reduct, necessity, conflict, reading, stable, stable_sets, objection}
 use Rattle.semantics.specs.Statements.{Fits, Graded, LeastOf}
 use Rattle.semantics.proofs.Listing.{lists_stable}
-use Rattle.semantics.proofs.Least.{conflict-least, necessity-least}
+use Rattle.semantics.proofs.Least.{conflict_least, necessity_least}
 use Rattle.semantics.proofs.Objections.{necessity_is_grade, free_of_conflict, stable_frees}
 use Rattle.semantics.proofs.Reducts.{reduct-fits}
-use Rattle.rulebase.specs.Reference.{Standing, stale, after, Reply, model, no_more, grade, nth, moved, fetched}
-use Rattle.rulebase.proofs.Taken.{left-none, left_more, take_nothing, nth_among, all_taken, not_taken}
+use Rattle.rulebase.specs.Reference.{Standing, stale, after, Reply, model, no_more, grade, moved, fetched}
+use Rattle.rulebase.proofs.Taken.{left-none, left_more, nth_among, all_taken, not_taken}
 use Rattle.rulebase.specs.Laws.{Kind, changing, rewinding, fetching, resting, Leaves, sets_in, fetches_in, sets, fetches, Lawful, Necessities}
 
 after_same : (m n : ℕ) → after m ≡ after n → m ≡ n
@@ -39,8 +40,8 @@ module _ {G : Type 0} (o : Order G) (w : ℕ) where
     pub count : ℕ
     pub stood : v.standing ≡ after count
     pub holds : u.rules ≡ v.rules
-    pub stands : u.standing ≡ after (moved (nth (stable_sets o w v.rules) count) count)
-    pub says : r ≡ fetched o w v.rules (nth (stable_sets o w v.rules) count)
+    pub stands : u.standing ≡ after (moved (slice_get (stable_sets o w v.rules) count) count)
+    pub says : r ≡ fetched o w v.rules (slice_get (stable_sets o w v.rules) count)
 
   -- what a call of each kind does
   abbrev pub Does : Kind → View G → View G → Reply G → Type 0
@@ -101,16 +102,16 @@ module _ {G : Type 0} (o : Order G) (w : ℕ) where
           stands = h.stands ∙ ap (λ (l : List ℕ). after (k + length (l ++ sets xs))) (sym q.no_set);
         }
 
-    ended_more : (P : List (Rule G)) (k : ℕ) (xs : List (Reply G)) (u : View G) → nth (stable_sets o w P) k ≡ None → Listed P k xs u → Listed P k (no_more ∷ xs) u
+    ended_more : (P : List (Rule G)) (k : ℕ) (xs : List (Reply G)) (u : View G) → slice_get (stable_sets o w P) k ≡ None → Listed P k xs u → Listed P k (no_more ∷ xs) u
     ended_more P k xs u e h =
         let d = left-none (stable_sets o w P) k e in
         record {
-          are = h.are ∙ ap (take (fetches xs)) d ∙ take_nothing (fetches xs) ∙ sym (take_nothing (1 + fetches xs)) ∙ ap (take (1 + fetches xs)) (sym d);
+          are = h.are ∙ ap (take (fetches xs)) d ∙ take-nil (fetches xs) ∙ sym (take-nil (1 + fetches xs)) ∙ ap (take (1 + fetches xs)) (sym d);
           holds = h.holds;
           stands = h.stands;
         }
 
-    model_more : (P : List (Rule G)) (k A : ℕ) (gs : List G) (xs : List (Reply G)) (u : View G) → nth (stable_sets o w P) k ≡ Some A → Listed P (suc k) xs u → Listed P k (model A gs ∷ xs) u
+    model_more : (P : List (Rule G)) (k A : ℕ) (gs : List G) (xs : List (Reply G)) (u : View G) → slice_get (stable_sets o w P) k ≡ Some A → Listed P (suc k) xs u → Listed P k (model A gs ∷ xs) u
     model_more P k A gs xs u e h =
         let one_more : suc (fetches xs) ≡ 1 + fetches xs = omega arith in
         let moves : suc k + length (sets xs) ≡ k + suc (length (sets xs)) = omega arith in
@@ -127,21 +128,21 @@ module _ {G : Type 0} (o : Order G) (w : ℕ) where
     listed_more changing P k v u r xs e l d p t rest = absurd l
     listed_more rewinding P k v u r xs e l d p t rest = absurd l
     listed_more resting P k v u r xs e l d p t rest = silent_more P k r xs e d.2 (rest k (d.0 ∙ p) (d.1 ∙ t))
-    listed_more fetching P k v u r xs e l d p t rest = go (nth (stable_sets o w P) k) refl
+    listed_more fetching P k v u r xs e l d p t rest = go (slice_get (stable_sets o w P) k) refl
       where
         same : d.count ≡ k
         same = after_same d.count k (sym d.stood ∙ t)
 
-        at_here : nth (stable_sets o w v.rules) d.count ≡ nth (stable_sets o w P) k
-        at_here = ap (λ (Q : List (Rule G)). nth (stable_sets o w Q) d.count) p ∙ ap (nth (stable_sets o w P)) same
+        at_here : slice_get (stable_sets o w v.rules) d.count ≡ slice_get (stable_sets o w P) k
+        at_here = ap (λ (Q : List (Rule G)). slice_get (stable_sets o w Q) d.count) p ∙ ap (slice_get (stable_sets o w P)) same
 
-        says : (b : Option ℕ) → nth (stable_sets o w P) k ≡ b → fetched o w v.rules b ≡ r
+        says : (b : Option ℕ) → slice_get (stable_sets o w P) k ≡ b → fetched o w v.rules b ≡ r
         says b h = sym (d.says ∙ ap (fetched o w v.rules) (at_here ∙ h))
 
-        stands : (b : Option ℕ) → nth (stable_sets o w P) k ≡ b → u.standing ≡ after (moved b k)
+        stands : (b : Option ℕ) → slice_get (stable_sets o w P) k ≡ b → u.standing ≡ after (moved b k)
         stands b h = d.stands ∙ ap (λ (c : Option ℕ). after (moved c d.count)) (at_here ∙ h) ∙ ap (λ (c : ℕ). after (moved b c)) same
 
-        go : (b : Option ℕ) → nth (stable_sets o w P) k ≡ b → Listed P k (r ∷ xs) e
+        go : (b : Option ℕ) → slice_get (stable_sets o w P) k ≡ b → Listed P k (r ∷ xs) e
         go None h = subst (λ (a : Reply G). Listed P k (a ∷ xs) e) (says None h) (ended_more P k xs e h (rest k (d.holds ∙ p) (stands None h)))
         go (Some A) h =
             subst (λ (a : Reply G). Listed P k (a ∷ xs) e) (says (Some A) h)
@@ -195,10 +196,10 @@ module _ {G : Type 0} (o : Order G) (w : ℕ) where
               let long : length (sets xs) ≡ length (take (fetches xs) L) = ap length whole.are in
               omega arith
 
-          up : nth (stable_sets o w (m.view e).rules) f.count ≡ nth L (length (take (fetches xs) L))
-          up = ap (λ (Q : List (Rule G)). nth (stable_sets o w Q) f.count) whole.holds ∙ ap (nth L) so_many
+          up : slice_get (stable_sets o w (m.view e).rules) f.count ≡ slice_get L (length (take (fetches xs) L))
+          up = ap (λ (Q : List (Rule G)). slice_get (stable_sets o w Q) f.count) whole.holds ∙ ap (slice_get L) so_many
 
-          says : (b : Option ℕ) → nth L (length (take (fetches xs) L)) ≡ b → m.reply e d ≡ fetched o w (m.view e).rules b
+          says : (b : Option ℕ) → slice_get L (length (take (fetches xs) L)) ≡ b → m.reply e d ≡ fetched o w (m.view e).rules b
           says b h = f.says ∙ ap (fetched o w (m.view e).rules) (up ∙ h)
 
           in_sets : (A : ℕ) → Among A (take (fetches xs) L) → Among A (sets xs)
@@ -208,16 +209,16 @@ module _ {G : Type 0} (o : Order G) (w : ℕ) where
           out-sets A i = subst (Among A) whole.are i
 
           ends : m.reply e d ≡ no_more → (A : ℕ) → stable o w P A ≡ true → Among A (sets xs)
-          ends r A t = go (nth L (length (take (fetches xs) L))) refl
+          ends r A t = go (slice_get L (length (take (fetches xs) L))) refl
             where
-              go : (b : Option ℕ) → nth L (length (take (fetches xs) L)) ≡ b → Among A (sets xs)
+              go : (b : Option ℕ) → slice_get L (length (take (fetches xs) L)) ≡ b → Among A (sets xs)
               go None h = in_sets A (all_taken L (fetches xs) A h (((lists_stable o w P).all A).1 t))
               go (Some B) h = absurd (more_none _ _ (sym (says (Some B) h) ∙ r))
 
           ended : ((A : ℕ) → stable o w P A ≡ true → Among A (sets xs)) → m.reply e d ≡ no_more
-          ended h = go (nth L (length (take (fetches xs) L))) refl
+          ended h = go (slice_get L (length (take (fetches xs) L))) refl
             where
-              go : (b : Option ℕ) → nth L (length (take (fetches xs) L)) ≡ b → m.reply e d ≡ no_more
+              go : (b : Option ℕ) → slice_get L (length (take (fetches xs) L)) ≡ b → m.reply e d ≡ no_more
               go None k = says None k
               go (Some B) k =
                   absurd (not_taken L (fetches xs) B (lists_stable o w P).rising k
@@ -257,9 +258,9 @@ module _ {G : Type 0} (o : Order G) (w : ℕ) where
     told changing v u r A gs d e = absurd (speaks r A gs d.1 e)
     told rewinding v u r A gs d e = absurd (speaks r A gs d.2 e)
     told resting v u r A gs d e = absurd (speaks r A gs d.2 e)
-    told fetching v u r A gs d e = go (nth (stable_sets o w v.rules) d.count) refl (sym d.says ∙ e)
+    told fetching v u r A gs d e = go (slice_get (stable_sets o w v.rules) d.count) refl (sym d.says ∙ e)
       where
-        go : (b : Option ℕ) → nth (stable_sets o w v.rules) d.count ≡ b → fetched o w v.rules b ≡ model A gs → Told v.rules A gs
+        go : (b : Option ℕ) → slice_get (stable_sets o w v.rules) d.count ≡ b → fetched o w v.rules b ≡ model A gs → Told v.rules A gs
         go None h k = absurd (more_none A gs (sym k))
         go (Some B) h k =
             let same : B ≡ A = cc in
@@ -282,7 +283,7 @@ module _ {G : Type 0} (o : Order G) (w : ℕ) where
           long = ap length tells.1 ∙ length-map-range_with_len (necessity o w (reduct A (m.view s).rules)) 0 w;
           least = λ x l.
               subst (λ (g : G). LeastOf o w g (λ B. not (has B x)) (objection o w (reduct A (m.view s).rules)))
-              (sym (at_atom x l)) (necessity-least o w (reduct A (m.view s).rules) x);
+              (sym (at_atom x l)) (necessity_least o w (reduct A (m.view s).rules) x);
         }
 
         pub are_readings : Fits w (m.view s).rules → (x : ℕ) → x < w → get_or gs x o.bottom ≡ reading o w (m.view s).rules A x
@@ -293,7 +294,7 @@ module _ {G : Type 0} (o : Order G) (w : ℕ) where
         pub is_least_objection : LeastOf o w g (λ A. true) (λ A. objection o w (reduct A (m.view s).rules) A)
         is_least_objection =
             subst (λ (x : G). LeastOf o w x (λ A. true) (λ A. objection o w (reduct A (m.view s).rules) A))
-            (sym (m.grades s c g e)) (conflict-least o w (m.view s).rules)
+            (sym (m.grades s c g e)) (conflict_least o w (m.view s).rules)
 
         pub bottom_iff_stable : Fits w (m.view s).rules → Graded o (m.view s).rules →
             (g ≡ o.bottom) ↔ ((A : ℕ) × (A < 2 ^ w) × (stable o w (m.view s).rules A ≡ true))

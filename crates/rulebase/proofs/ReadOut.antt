@@ -1,7 +1,7 @@
 -- The next stable set of the rules read out, and its reading, are those of the reference.
 use Rattle.std.proofs.Common.{◌≡◌, ℕ, zero, suc, ◌≤◌, Bool, true, false, cond, ltb, List, [], ◌∷◌, map, length, take, drop, Some, None, Option, sym, refl, ap, ◌∙◌, subst, inl, inr, arith, MatchOption}
+use Rattle.std.specs.List.{slice_get, range_with_len}
 use mathlib.Core.Path.{fun_ext}
-use Rattle.std.specs.List.{range_with_len}
 use Rattle.std.proofs.lemmas.List.FromFn.{length-map-range_with_len, get_or-map-range_with_len, fill_by_all}
 use Rattle.std.proofs.lemmas.Simd.{map-map}
 use Rattle.std.proofs.lemmas.List.{take_at}
@@ -21,7 +21,7 @@ use Rattle.search.specs.Admissible.{NoSuch, Least}
 use Rattle.grading.specs.Laid.{Short, Laid}
 use Rattle.grading.proofs.Laying.{over-short, length-rows}
 use Rattle.rulebase.specs.Ahead.{start, Ahead, Read}
-use Rattle.rulebase.specs.Reference.{nth, after, held, passed, model}
+use Rattle.rulebase.specs.Reference.{after, held, passed, model}
 use Rattle.rulebase.specs.Tables.{most_places, holds, pairs_of, places_of, standing_of, state_of}
 use Rattle.rulebase.specs.declared.cursor.Cursor.{Cursor}
 use Rattle.rulebase.specs.declared.cursor.Cursor.TheVariants as cursor
@@ -119,7 +119,7 @@ module _ {G R : Type 0} (s : Scaled G R) where
       read_none entry h =
           let f = from_ahead None h in
           record {
-            set = next_is s.order width P (start c) None f ∙ ap (nth (stable_sets s.order width P)) (sym (passed_start P c));
+            set = next_is s.order width P (start c) None f ∙ ap (slice_get (stable_sets s.order width P)) (sym (passed_start P c));
             rows = refl;
             told = refl;
             moves = ap after (ap length (passed-all s.order width P (start c) f) ∙ sym (passed_start P c));
@@ -131,7 +131,7 @@ module _ {G R : Type 0} (s : Scaled G R) where
           let f = from_ahead (Some a) h in
           let lies : exit ≡ over (rows_of s width (reading s.order width P a)) entry = laid ∙ ap (λ (Q : List (Rule G)). over (rows_of s width (reading s.order width Q a)) entry) e in
           record {
-            set = next_is s.order width P (start c) (Some a) f ∙ ap (nth (stable_sets s.order width P)) (sym (passed_start P c));
+            set = next_is s.order width P (start c) (Some a) f ∙ ap (slice_get (stable_sets s.order width P)) (sym (passed_start P c));
             rows = lies;
             told = ap (model a) (ap (λ (b : List R). map s.read_of (take width b)) lies ∙ laid-read width (reading s.order width P a) entry room ∙ sym (necessities width P a places_fit));
             moves = ap after (found-count s.order width P (start c) a f ∙ ap suc (sym (passed_start P c)));

@@ -1,5 +1,6 @@
 -- The stable sets one after the other: the next one of the list is the least that has not been passed.
 use Rattle.std.proofs.Common.{◌≡◌, ℕ, zero, suc, ◌^◌, ◌<◌, ◌≤◌, Bool, true, false, cond, List, [], ◌∷◌, ◌++◌, length, Some, None, Option, sym, refl, ap, ◌∙◌, ap₂, ⊎_elim, append_assoc, append-nil, arith, MatchOption}
+use Rattle.std.specs.List.{slice_get}
 use Rattle.std.proofs.lemmas.List.{length_push}
 use Rattle.std.proofs.lemmas.Bool.{cases_lt}
 use Rattle.scale.specs.Laws.{Order}
@@ -7,14 +8,13 @@ use Rattle.semantics.specs.Rules.{Rule, stable, stable_below, stable_sets}
 use Rattle.semantics.proofs.Sets.{false_from}
 use Rattle.semantics.proofs.Objections.{stable_is_below}
 use Rattle.search.specs.Admissible.{NoSuch, Least}
-use Rattle.rulebase.specs.Reference.{nth}
 
 -- what stands after a front of a list, and past its end
-pub nth-next : (xs ys : List ℕ) (a : ℕ) → nth (xs ++ a ∷ ys) (length xs) ≡ Some a
+pub nth-next : (xs ys : List ℕ) (a : ℕ) → slice_get (xs ++ a ∷ ys) (length xs) ≡ Some a
 nth-next [] ys a = refl
 nth-next (x ∷ xs) ys a = nth-next xs ys a
 
-pub nth_end : (xs : List ℕ) → nth xs (length xs) ≡ None
+pub nth_end : (xs : List ℕ) → slice_get xs (length xs) ≡ None
 nth_end [] = refl
 nth_end (x ∷ xs) = nth_end xs
 
@@ -58,12 +58,12 @@ module _ {G : Type 0} (o : Order G) (w : ℕ) (P : List (Rule G)) where
           f.passes.0
 
       -- the least stable set from n on is the next one of the list
-      pub found-next : nth (stable_sets o w P) (length (stable_below o w P n)) ≡ Some a
+      pub found-next : slice_get (stable_sets o w P) (length (stable_below o w P n)) ≡ Some a
       unfolding stable_sets
       found-next =
           let low = stable_is_below o w P a f.passes.0 in
           let p = fronted (suc a) (2 ^ w) (omega arith) in
-          ap (λ (xs : List ℕ). nth xs (length (stable_below o w P n)))
+          ap (λ (xs : List ℕ). slice_get xs (length (stable_below o w P n)))
           (p.1 ∙ ap (λ (xs : List ℕ). xs ++ p.0) found_list ∙ append_assoc (stable_below o w P n) (a ∷ []) p.0)
           ∙ nth-next (stable_below o w P n) p.0 a
 
@@ -79,11 +79,11 @@ module _ {G : Type 0} (o : Order G) (w : ℕ) (P : List (Rule G)) where
           (λ (h : 2 ^ w ≤ n). sym (skipped (2 ^ w) n h (λ b i j. false_from (stable o w P b) (λ t. let l = stable_is_below o w P b t in absurd (omega arith)))))
           (cases_lt n (2 ^ w))
 
-      pub none-next : nth (stable_sets o w P) (length (stable_below o w P n)) ≡ None
+      pub none-next : slice_get (stable_sets o w P) (length (stable_below o w P n)) ≡ None
       unfolding stable_sets
-      none-next = ap (λ (xs : List ℕ). nth xs (length (stable_below o w P n))) passed-all ∙ nth_end (stable_below o w P n)
+      none-next = ap (λ (xs : List ℕ). slice_get xs (length (stable_below o w P n))) passed-all ∙ nth_end (stable_below o w P n)
 
     -- either way, what a search from n on finds is the next one
-    pub next_is : (r : Option ℕ) → MatchOption r (NoSuch (From n)) (Least (From n)) → r ≡ nth (stable_sets o w P) (length (stable_below o w P n))
+    pub next_is : (r : Option ℕ) → MatchOption r (NoSuch (From n)) (Least (From n)) → r ≡ slice_get (stable_sets o w P) (length (stable_below o w P n))
     next_is None h = sym (none-next h)
     next_is (Some a) h = sym (found-next a h)

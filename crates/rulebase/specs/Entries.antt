@@ -6,4 +6,4 @@ use Rattle.rulebase.specs.declared.holding.Entry.{Entry}
 -- the rule that an answer stands for
 abbrev pub entered : {G : Type 0} → Option (Entry G) → Option (Rule G)
 entered None = None
-entered (Some e) = Some (record { head = e.head; pos = e.pos; neg = e.neg; grade = e.grade })
+entered (Some e) = Some (record { head = e.head.number; pos = e.pos; neg = e.neg; grade = e.grade })

@@ -5,5 +5,4 @@ pub mod Entries
 pub mod Runs
 pub mod Lists
 pub mod Laws
-pub mod Held
 pub mod Ahead

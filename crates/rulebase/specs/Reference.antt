@@ -1,6 +1,6 @@
 -- The reference that the rule base is held to. It keeps a rule or none for each place, and tries all sets.
-use Rattle.std.specs.Prelude.{ℕ, zero, suc, ◌+◌, Bool, true, false, cond, List, [], ◌∷◌, map, length, replicate, Some, None, Option, ◌==◌, nat_lt, slice_index_or, slice_set}
-use Rattle.std.specs.List.{range_with_len}
+use Rattle.std.specs.Prelude.{ℕ, suc, ◌+◌, Bool, true, false, cond, List, [], ◌∷◌, map, length, replicate, Some, None, Option, ◌==◌, nat_lt, slice_index_or, slice_set}
+use Rattle.std.specs.List.{range_with_len, slice_get}
 use Rattle.scale.specs.Laws.{Order, above}
 use Rattle.scale.specs.Refusals.{number_of}
 use Rattle.scale.specs.declared.refusal.Refusal.TheVariants.{NoSuchPlace, PlaceTaken, NoSuchAtom, BottomGrade, PlaceEmpty, StaleCursor, ShortGradeBuffer}
@@ -26,12 +26,6 @@ pub data Reply (G : Type 0) : Type 0 where
   model : ℕ → List G → Reply G
   no_more : Reply G
   grade : G → Reply G
-
--- the value at a place of a list, where there is one
-abbrev pub nth : {A : Type 0} → List A → ℕ → Option A
-nth [] n = None
-nth (x ∷ xs) zero = Some x
-nth (x ∷ xs) (suc n) = nth xs n
 
 -- how many stable sets the list has passed, and after one more fetch
 abbrev pub passed : Standing → ℕ
@@ -93,7 +87,7 @@ module _ {G : Type 0} (o : Order G) (w : ℕ) where
 
   -- the next stable set, where there is one left
   abbrev pub upcoming : State G → Option ℕ
-  upcoming s = nth (stable_sets o w (held s.places)) (passed s.standing)
+  upcoming s = slice_get (stable_sets o w (held s.places)) (passed s.standing)
 
   -- a stable set with the necessity of each atom in the reduct by it
   abbrev pub fetched : List (Rule G) → Option ℕ → Reply G

@@ -1,5 +1,6 @@
 -- What two tables and a cursor hold.
-use Rattle.std.specs.Prelude.{◌≡◌, ℕ, suc, ◌^◌, min, Bool, true, false, cond, ◌&&◌, List, [], ◌∷◌, map, length, take, Some, None, Option, nat_lt, slice_index_or}
+use Rattle.std.specs.Prelude.{◌≡◌, ℕ, suc, ◌^◌, min, Bool, true, false, cond, ◌&&◌, List, map, length, take, drop, Some, None, Option, nat_lt}
+use Rattle.std.specs.List.{zip}
 use Rattle.scale.specs.Laws.{Scaled, above}
 use Rattle.semantics.specs.Sets.{width}
 use Rattle.semantics.specs.Rules.{Rule, stable_below}
@@ -16,9 +17,20 @@ most_places = 1024
 abbrev pub count_of : {A B : Type 0} → List A → List B → ℕ
 count_of rules rows = min (min (length rules) (length rows)) most_places
 
+-- The tables keep their lengths and what lies beyond the last place.
+pub record KeepsRest {A B : Type 0} (rules : List A) (rows : List B) (rules' : List A) (rows' : List B) : Type 0 where
+  pub rules_length : length rules' ≡ length rules
+  pub rows_length : length rows' ≡ length rows
+  pub rules_rest : drop (count_of rules rows) rules' ≡ drop (count_of rules rows) rules
+  pub rows_rest : drop (count_of rules rows) rows' ≡ drop (count_of rules rows) rows
+
 -- the record of an empty place
 abbrev pub empty_record : Record
 empty_record = record { head = 0; pos = 0; neg = 0; marked = false }
+
+-- and its row
+abbrev pub empty_row : {G R : Type 0} → Scaled G R → R
+empty_row s = s.row_of s.order.bottom
 
 module _ {G R : Type 0} (s : Scaled G R) where
   -- a place holds a rule where its record is marked, its head is an atom and its grade is above the bottom
@@ -29,16 +41,11 @@ module _ {G R : Type 0} (s : Scaled G R) where
   abbrev pub place_of : Record → R → Option (Rule G)
   place_of r row = cond (holds r row) (Some (record { head = r.head; pos = r.pos; neg = r.neg; grade = s.read_of row })) None
 
-  -- the place k holds a rule; a place beyond the tables holds none
-  abbrev pub holds_at : List Record → List R → ℕ → Bool
-  holds_at rules rows k = nat_lt k (length rules) && holds (slice_index_or rules k empty_record) (slice_index_or rows k (s.row_of s.order.bottom))
-
+  -- what each place of both tables holds
   unfoldable pub pairs_of : List Record → List R → List (Option (Rule G))
-  pairs_of [] rows = []
-  pairs_of (r ∷ rs) [] = []
-  pairs_of (r ∷ rs) (x ∷ xs) = place_of r x ∷ pairs_of rs xs
+  pairs_of rules rows = map (λ p. place_of p.0 p.1) (zip rules rows)
 
-  -- what the places hold
+  -- what the places hold: there are no more than `most_places`
   unfoldable pub places_of : List Record → List R → List (Option (Rule G))
   places_of rules rows = take most_places (pairs_of rules rows)
 
@@ -59,7 +66,7 @@ record_of None = empty_record
 record_of (Some r) = record { head = r.head; pos = r.pos; neg = r.neg; marked = true }
 
 abbrev pub row_for : {G R : Type 0} → Scaled G R → Option (Rule G) → R
-row_for s None = s.row_of s.order.bottom
+row_for s None = empty_row s
 row_for s (Some r) = s.row_of r.grade
 
 -- The tables are exactly those of the places that they stand for: the mark alone tells an empty place.

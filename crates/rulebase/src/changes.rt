@@ -1,10 +1,7 @@
 //! Changes to the rules held.
-ghost use Rattle.std.specs.Prelude.{◌≡◌, slice_set};
-ghost use Rattle.rulebase.specs.Calls.{rules_in, rows_in, state_in, said, if_accepted, marked_record};
-ghost use Rattle.rulebase.specs.Reference.{reply, next};
-ghost use Rattle.rulebase.specs.Runs.{Stays};
-ghost use Rattle.rulebase.specs.Tables.{empty_record};
-ghost use Rattle.semantics.specs.Sets.{width};
+ghost use Rattle.rulebase.specs.Calls.{said};
+ghost use Rattle.rulebase.specs.Reference.{done};
+ghost use Rattle.rulebase.specs.Runs.{Performs};
 
 use crate::base::RuleBase;
 use crate::call::Call;
@@ -15,20 +12,17 @@ use scale::scale::{Scale, is_above_bottom};
 use semantics::atom::Atom;
 use semantics::set::AtomSet;
 
-impl<'a, S: Scale> RuleBase<'a, S> {
+impl<S: Scale> RuleBase<'_, S> {
     /// The list of stable sets stands before the first.
+    #[tactic(auto, unfolding(crate::specs::Reference::reply, crate::specs::Reference::next, crate::specs::Tables::state_of))]
     pub fn rewind(&mut self)
-        ensures state { state_in S.Scale.scale self.new ≡ next S.Scale.scale.order width (state_in S.Scale.scale self.old) Call.Rewind }
-        ensures rules { rules_in self.new ≡ rules_in self.old }
-        ensures rows { rows_in self.new ≡ rows_in self.old }
-        ensures stays { Stays S.Scale.scale (rules_in self.old) (rows_in self.old) (rules_in self.new) (rows_in self.new) }
-        ensures rules_name { self.new.rules.ghost_name ≡ self.old.rules.ghost_name }
-        ensures rows_name { self.new.grades.rows.ghost_name ≡ self.old.grades.rows.ghost_name }
+        ensures { Performs S.Scale.scale self.old Call.Rewind done self.new }
     {
         self.cursor = Cursor::First;
     }
 
     /// Enters a rule at an empty place. Any number may be handed in as the head.
+    #[tactic(auto, using(crate::proofs::Setting::entry_steps), unfolding(crate::specs::Reference::reply, crate::specs::Reference::next, crate::specs::Tables::state_of))]
     pub fn enter(
         &mut self,
         place: usize,
@@ -37,23 +31,12 @@ impl<'a, S: Scale> RuleBase<'a, S> {
         neg: AtomSet,
         grade: S,
     ) -> Result<(), Refusal>
-        ensures answer { said result ≡ reply S.Scale.scale.order width (state_in S.Scale.scale self.old) (Call.Enter place head pos neg grade) }
-        ensures state { state_in S.Scale.scale self.new ≡ next S.Scale.scale.order width (state_in S.Scale.scale self.old) (Call.Enter place head pos neg grade) }
-        ensures rules { rules_in self.new ≡ if_accepted S.Scale.scale self.old (Call.Enter place head pos neg grade) (slice_set (rules_in self.old) place (marked_record head pos neg)) (rules_in self.old) }
-        ensures rows { rows_in self.new ≡ if_accepted S.Scale.scale self.old (Call.Enter place head pos neg grade) (slice_set (rows_in self.old) place (S.Scale.scale.row_of grade)) (rows_in self.old) }
-        ensures stays { Stays S.Scale.scale (rules_in self.old) (rows_in self.old) (rules_in self.new) (rows_in self.new) }
-        ensures rules_name { self.new.rules.ghost_name ≡ self.old.rules.ghost_name }
-        ensures rows_name { self.new.grades.rows.ghost_name ≡ self.old.grades.rows.ghost_name }
+        ensures { Performs S.Scale.scale self.old (Call.Enter place head pos neg grade) (said result) self.new }
     {
-        if place >= self.places() {
-            return Err(Refusal::NoSuchPlace);
-        }
-        if self.is_held(place) {
+        if self.entry_at(place)?.is_some() {
             return Err(Refusal::PlaceTaken);
         }
-        let Some(atom) = Atom::from_number(head) else {
-            return Err(Refusal::NoSuchAtom);
-        };
+        let atom = Atom::try_from(head)?;
         if !is_above_bottom(grade) {
             return Err(Refusal::BottomGrade);
         }
@@ -69,19 +52,11 @@ impl<'a, S: Scale> RuleBase<'a, S> {
     }
 
     /// Takes the rule at a place out.
+    #[tactic(auto, using(crate::proofs::Staying::place_steps), unfolding(crate::specs::Reference::reply, crate::specs::Reference::next, crate::specs::Tables::state_of))]
     pub fn strike(&mut self, place: usize) -> Result<(), Refusal>
-        ensures answer { said result ≡ reply S.Scale.scale.order width (state_in S.Scale.scale self.old) (Call.Strike place) }
-        ensures state { state_in S.Scale.scale self.new ≡ next S.Scale.scale.order width (state_in S.Scale.scale self.old) (Call.Strike place) }
-        ensures rules { rules_in self.new ≡ if_accepted S.Scale.scale self.old (Call.Strike place) (slice_set (rules_in self.old) place empty_record) (rules_in self.old) }
-        ensures rows { rows_in self.new ≡ if_accepted S.Scale.scale self.old (Call.Strike place) (slice_set (rows_in self.old) place (S.Scale.scale.row_of S.Scale.scale.order.bottom)) (rows_in self.old) }
-        ensures stays { Stays S.Scale.scale (rules_in self.old) (rows_in self.old) (rules_in self.new) (rows_in self.new) }
-        ensures rules_name { self.new.rules.ghost_name ≡ self.old.rules.ghost_name }
-        ensures rows_name { self.new.grades.rows.ghost_name ≡ self.old.grades.rows.ghost_name }
+        ensures { Performs S.Scale.scale self.old (Call.Strike place) (said result) self.new }
     {
-        if place >= self.places() {
-            return Err(Refusal::NoSuchPlace);
-        }
-        if !self.is_held(place) {
+        if self.entry_at(place)?.is_none() {
             return Err(Refusal::PlaceEmpty);
         }
         self.clear(place);

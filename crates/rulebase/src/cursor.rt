@@ -2,7 +2,7 @@
 use semantics::set::AtomSet;
 
 /// Stale since opening or the last change; before the first stable set; after a stable set; or ended.
-#[derive(Clone, Copy)]
+#[derive(Clone, Copy, PartialEq, Eq, Debug)]
 pub enum Cursor {
     Stale,
     First,

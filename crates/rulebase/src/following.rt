@@ -1,6 +1,5 @@
 //! The stable set that a cursor comes to next.
-ghost use Rattle.std.specs.Option.{MatchOption};
-ghost use Rattle.search.specs.Admissible.{NoSuch, Least};
+ghost use Rattle.search.specs.Admissible.{Finds};
 ghost use Rattle.rulebase.specs.Ahead.{start, Ahead};
 
 use crate::cursor::Cursor;
@@ -9,8 +8,9 @@ use semantics::rule::PlainRule;
 use semantics::set::AtomSet;
 
 /// The least stable set that the cursor has not passed; a stale one has passed none.
+#[tactic(auto, using(semantics::proofs::Objections::stable_is_below))]
 pub(crate) fn following(rules: &[PlainRule], cursor: Cursor) -> Option<AtomSet>
-    ensures { MatchOption result (NoSuch (Ahead rules.now (start cursor))) (Least (Ahead rules.now (start cursor))) }
+    ensures { Finds (Ahead rules.now (start cursor)) result }
 {
     match cursor {
         Cursor::Stale | Cursor::First => first(rules),

@@ -3,18 +3,10 @@ ghost use Rattle.std.specs.Prelude.{◌≡◌, ◌<◌, length, slice_set};
 
 use scale::scale::Scale;
 
-/// The caller's rows, for any scale.
+/// The caller's rows: one table for every scale, whose methods pass the slice on in that scale's terms.
 #[derive(Drop)]
 pub struct GradeTable<'a, S: Scale> {
     pub rows: &'a mut [S::Row],
-}
-
-/// Writes the row of the grade at a place.
-fn put_row<S: Scale>(rows: &mut [S::Row], place: usize, grade: S)
-    requires { place < length rows.old }
-    ensures { rows.new ≡ slice_set rows.old place (S.Scale.scale.row_of grade) }
-{
-    rows[place] = grade.row();
 }
 
 impl<'a, S: Scale> GradeTable<'a, S> {
@@ -48,6 +40,6 @@ impl<'a, S: Scale> GradeTable<'a, S> {
         ensures rows { self.new.rows.now ≡ slice_set self.old.rows.now place (S.Scale.scale.row_of grade) }
         ensures rows_name { self.new.rows.ghost_name ≡ self.old.rows.ghost_name }
     {
-        put_row::<S>(self.rows, place, grade);
+        self.rows[place] = grade.row();
     }
 }

@@ -4,17 +4,16 @@
 
 pub mod base;
 pub mod call;
-pub mod changes;
+mod changes;
 pub mod conflicting;
 pub mod cursor;
-pub mod cutting;
-pub mod fetching;
+mod cutting;
+mod fetching;
 mod following;
 pub mod grades;
-mod held;
 pub mod holding;
 pub mod opening;
-pub mod performing;
+mod performing;
 mod reading;
 pub mod rule;
 pub mod running;

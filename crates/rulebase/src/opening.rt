@@ -1,14 +1,14 @@
 //! Opening a rule base over two tables, and closing it.
-ghost use Rattle.std.specs.Prelude.{◌≡◌, ◌≤◌, ◌++◌, length, drop, replicate};
+ghost use Rattle.std.specs.Prelude.{◌≡◌, ◌++◌, drop, replicate};
 ghost use Rattle.rulebase.specs.Calls.{rules_in, rows_in, state_in};
 ghost use Rattle.rulebase.specs.Reference.{opened};
-ghost use Rattle.rulebase.specs.Tables.{count_of, empty_record};
+ghost use Rattle.rulebase.specs.Tables.{count_of, empty_record, empty_row};
 ghost use Rattle.semantics.specs.Sets.{width};
 
 use crate::base::{PLACES, RuleBase};
 use crate::cursor::Cursor;
 use crate::grades::GradeTable;
-use crate::rule::{EMPTY, Rule};
+use crate::rule::Rule;
 use scale::scale::Scale;
 
 /// Both tables, handed back.
@@ -18,34 +18,25 @@ pub struct Tables<'a, S: Scale> {
     pub rows: &'a mut [S::Row],
 }
 
-/// Writes the item into the first `count` entries.
-fn fill<T: Copy>(items: &mut [T], count: usize, item: T)
-    requires { count ≤ length items.old }
-    ensures { items.new ≡ replicate count item ++ drop count items.old }
-{
-    for i in 0..count {
-        items[i] = item;
-    }
-}
-
 impl<'a, S: Scale> RuleBase<'a, S> {
     /// A rule base over the two tables, all its places empty. It has as many places as the shorter table, at most 1,024;
     /// entries beyond are never touched.
     pub fn open(rules: &'a mut [Rule], rows: &'a mut [S::Row]) -> RuleBase<'a, S>
         ensures state { state_in S.Scale.scale result ≡ opened S.Scale.scale.order width (count_of rules.old rows.old) }
-        ensures rules { rules_in result ≡ replicate (count_of rules.old rows.old) empty_record ++ drop (count_of rules.old rows.old) rules.old }
-        ensures rows { rows_in result ≡ replicate (count_of rules.old rows.old) (S.Scale.scale.row_of S.Scale.scale.order.bottom) ++ drop (count_of rules.old rows.old) rows.old }
+        ensures rules { let n = count_of rules.old rows.old in rules_in result ≡ replicate n empty_record ++ drop n rules.old }
+        ensures rows { let n = count_of rules.old rows.old in rows_in result ≡ replicate n (empty_row S.Scale.scale) ++ drop n rows.old }
         ensures rules_name { result.rules.ghost_name ≡ rules.entry.ghost_name }
         ensures rows_name { result.grades.rows.ghost_name ≡ rows.entry.ghost_name }
     {
-        let count = rules.len().min(rows.len()).min(PLACES);
-        fill(rules, count, EMPTY);
-        fill(rows, count, S::bottom().row());
-        RuleBase {
+        let base = RuleBase {
             rules,
             grades: GradeTable::<S>::over(rows),
             cursor: Cursor::Stale,
-        }
+        };
+        let count = base.places();
+        base.rules[0..count].fill(Rule::EMPTY);
+        base.grades.rows[0..count].fill_with(|| S::bottom().row());
+        base
     }
 
     /// Hands both tables back.

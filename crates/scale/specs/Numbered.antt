@@ -1,9 +1,9 @@
 -- The texts of the points.
-use Rattle.std.specs.Prelude.{◌≡◌, ℕ, ◌≤◌, List, length, decimal}
+use Rattle.std.specs.Prelude.{◌≡◌, ℕ, ◌≤◌, List, [], length, decimal}
 use Rattle.std.proofs.Common.{inr, arith}
-use Rattle.std.specs.List.{AllByRecursion}
+use Rattle.std.specs.List.{All}
 use Rattle.std.proofs.lemmas.Fmt.{decimal_injective, length-decimal-le, decimal_nonempty, decimal_by_steps}
-use Rattle.std.proofs.ByRecursion.{All-append}
+use Rattle.std.proofs.lemmas.List.Elements.{All-nil, All-cons, All-push}
 use Rattle.scale.specs.Points.{same_point, point_read, point_read-value}
 use Rattle.scale.specs.Matches.{matching, matching-only, matching-reads}
 use Rattle.scale.specs.Texts.{Texts, Plain}
@@ -25,12 +25,12 @@ pub point-short : (p : Point) → length (point_text p) ≤ 16
 point-short p = let small : p.value ≤ 100 = p.ok in omega (arith, length-decimal-le 3 p.value (omega arith) (omega arith) (omega arith))
 
 -- a text has plain bytes
-pub point-plain : (p : Point) → AllByRecursion Plain (point_text p)
+pub point-plain : (p : Point) → All Plain (point_text p)
 point-plain p =
     let small : p.value ≤ 100 = p.ok in
-    decimal_by_steps (λ n ds. AllByRecursion Plain ds)
-    (λ n h. (inr (omega arith, omega arith), tt))
-    (λ n ds h all. All-append Plain ds _ all (inr (omega arith, omega arith), tt))
+    decimal_by_steps (λ n ds. All Plain ds)
+    (λ n h. All-cons Plain _ [] (inr (omega arith, omega arith)) (All-nil Plain))
+    (λ n ds h all. All-push Plain ds _ all (inr (omega arith, omega arith)))
     p.value (omega arith)
 
 -- the points with their texts; bytes are parsed by comparing them with the texts of the points 0 to 100

@@ -1,7 +1,8 @@
 -- The texts of the words.
 use Rattle.std.specs.Prelude.{◌≡◌, ℕ, ◌≤◌, Bool, true, cond, ◌&&◌, List, [], ◌∷◌, length, codes, ◌==◌, nat_le, slice_index, refl}
 use Rattle.std.proofs.Common.{sym, ap, ◌∙◌, inl, arith, lit≤}
-use Rattle.std.specs.List.{AllByRecursion}
+use Rattle.std.specs.List.{All}
+use Rattle.std.proofs.lemmas.List.Elements.{All-nil, All-cons}
 use Rattle.std.proofs.lemmas.Bool.{and_parts, leb-true}
 use Rattle.scale.specs.Matches.{matching, matching-only, matching-reads}
 use Rattle.scale.specs.Texts.{Texts, Plain}
@@ -52,15 +53,15 @@ abbrev pub letters : List ℕ → Bool
 letters [] = true
 letters (b ∷ bs) = (nat_le 97 b && nat_le b 122) && letters bs
 
-pub letters-plain : (bs : List ℕ) → letters bs ≡ true → AllByRecursion Plain bs
-letters-plain [] e = tt
+pub letters-plain : (bs : List ℕ) → letters bs ≡ true → All Plain bs
+letters-plain [] e = All-nil Plain
 letters-plain (b ∷ bs) e =
     let parts = and_parts (nat_le 97 b && nat_le b 122) (letters bs) e in
     let ends = and_parts (nat_le 97 b) (nat_le b 122) parts.0 in
-    (inl (leb-true 97 b ends.0, leb-true b 122 ends.1), letters-plain bs parts.1)
+    All-cons Plain b bs (inl (leb-true 97 b ends.0, leb-true b 122 ends.1)) (letters-plain bs parts.1)
 
 -- a text has plain bytes
-pub word_plain : (w : Word) → AllByRecursion Plain (word_text w)
+pub word_plain : (w : Word) → All Plain (word_text w)
 word_plain Nil = letters-plain (codes "none") refl
 word_plain Faint = letters-plain (codes "faint") refl
 word_plain Fair = letters-plain (codes "fair") refl

@@ -1,6 +1,6 @@
 -- A text for each grade.
 use Rattle.std.specs.Prelude.{◌≡◌, ℕ, ◌≤◌, ◌⊎◌, List, length, Some, None, Option, ◌≢◌}
-use Rattle.std.specs.List.{AllByRecursion}
+use Rattle.std.specs.List.{All}
 
 -- the byte is a small letter or a digit
 abbrev pub Plain : ℕ → Type 0
@@ -12,7 +12,7 @@ pub record Texts (G : Type 0) : Type 0 where
   pub parse : List ℕ → Option G
   pub some : (g : G) → 1 ≤ length (of g)
   pub short : (g : G) → length (of g) ≤ 16
-  pub plain : (g : G) → AllByRecursion Plain (of g)
+  pub plain : (g : G) → All Plain (of g)
   pub reads : (g : G) → parse (of g) ≡ Some g
   pub only : (bytes : List ℕ) (g : G) → parse bytes ≡ Some g → bytes ≡ of g
 

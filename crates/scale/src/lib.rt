@@ -2,13 +2,13 @@
 
 #![tactic(auto)]
 
-pub mod numbered;
+mod numbered;
 pub mod pair;
 pub mod point;
-pub mod points;
+mod points;
 pub mod refusal;
 pub mod scale;
-pub mod spelled;
+mod spelled;
 #[cfg(test)]
 mod tests;
 pub mod text;

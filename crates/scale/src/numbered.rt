@@ -1,23 +1,19 @@
 //! The texts of the points: decimal, with no leading zero.
+ghost use Rattle.std.specs.Prelude.{Some};
 ghost use Rattle.scale.specs.Numbered.{point_text, point_texts};
 ghost use Rattle.scale.specs.Texts.{Parsed};
 
 use crate::point::Point;
 use crate::text::GradeText;
 use crate::written::Written;
+use itoa::Buffer;
+use std::fmt;
 
 impl Written for Point {
     ghost texts = { point_texts };
 
     fn text(self) -> GradeText {
-        let n = self.value();
-        if n < 10 {
-            GradeText::new(&[b'0' + n])
-        } else if n < 100 {
-            GradeText::new(&[b'0' + n / 10, b'0' + n % 10])
-        } else {
-            GradeText::new(b"100")
-        }
+        GradeText::new(Buffer::new().format(self.value()))
     }
 
     fn parse(bytes: &[u8]) -> Option<Point> {
@@ -25,7 +21,8 @@ impl Written for Point {
     }
 }
 
-/// The point whose number the bytes are.
+/// The point whose number the bytes are. A function of its own, whose clause says so in words: the trait's is `texts.parse`.
+#[tactic(auto, using(crate::proofs::Shapes::no_number))]
 fn point_numbered(bytes: &[u8]) -> Option<Point>
     ensures { Parsed point_text bytes.now result }
 {
@@ -34,5 +31,13 @@ fn point_numbered(bytes: &[u8]) -> Option<Point>
         [a @ b'1'..=b'9', b @ b'0'..=b'9'] => Some(Point::new((*a - b'0') * 10 + (*b - b'0'))),
         b"100" => Some(Point::new(100)),
         _ => None,
+    }
+}
+
+impl fmt::Display for Point {
+    ghost output = { λ point. Some (point_text point) };
+
+    fn fmt<W: fmt::Write>(&self, f: &mut fmt::Formatter<W>) -> fmt::Result {
+        write!(f, "{}", self.value())
     }
 }

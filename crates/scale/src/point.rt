@@ -1,8 +1,8 @@
 //! A grade of 0 to 100 points.
 ghost use Rattle.std.specs.Prelude.{◌≡◌, ◌≤◌};
 
-/// A number from 0 to 100.
-#[derive(Clone, Copy, PartialEq, Eq, Debug)]
+/// A number from 0 to 100. A type of its own, so that no atom can stand for a grade.
+#[derive(Clone, Copy, PartialEq, Eq, PartialOrd, Ord, Debug)]
 pub struct Point {
     value: u8,
     ghost ok: { value ≤ 100 },

@@ -5,11 +5,13 @@ use crate::point::Point;
 use crate::refusal::Refusal;
 use crate::scale::Scale;
 
-impl Point {
-    /// The point of that many points; a number above 100 is refused.
-    pub fn from_number(number: u64) -> Result<Point, Refusal>
-        ensures { PointFrom number result }
-    {
+/// The point of that many points; a number above 100 is refused.
+impl TryFrom<u64> for Point {
+    type Error = Refusal;
+
+    ghost try_from_gives = { PointFrom };
+
+    fn try_from(number: u64) -> Result<Point, Refusal> {
         if number <= 100 {
             Ok(Point::new(number as u8))
         } else {
@@ -24,7 +26,7 @@ impl Scale for Point {
     ghost scale = { points };
 
     fn at_most(self, other: Point) -> bool {
-        self.value() <= other.value()
+        self <= other
     }
 
     fn bottom() -> Point {

@@ -1,8 +1,12 @@
 //! Why a call is refused.
-ghost use Rattle.std.specs.Prelude.{◌≡◌};
+ghost use Rattle.std.specs.Prelude.{◌≡◌, Some, decimal};
 ghost use Rattle.scale.specs.Refusals.{number_of};
 
-/// The reasons for which any part of the product refuses, each with its number.
+use std::error::Error;
+use std::fmt;
+
+/// The reasons for which any part of the product refuses, each with its number. Those from 8 to 15 are promised to readers
+/// and writers of texts; nothing refuses with them yet.
 #[derive(Clone, Copy, PartialEq, Eq, Debug)]
 pub enum Refusal {
     /// The place is not below the number of places.
@@ -39,11 +43,22 @@ pub enum Refusal {
     PointOutOfRange = 16,
 }
 
-impl Refusal {
-    /// The number under which the refusal is known.
-    pub fn number(self) -> u8
-        ensures { result ≡ number_of self }
-    {
-        self as u8
+/// The number under which the refusal is known.
+impl From<Refusal> for u8 {
+    ghost from_gives = { λ refusal number. number ≡ number_of refusal };
+
+    fn from(refusal: Refusal) -> u8 {
+        refusal as u8
     }
 }
+
+/// Writes the number.
+impl fmt::Display for Refusal {
+    ghost output = { λ refusal. Some (decimal (number_of refusal)) };
+
+    fn fmt<W: fmt::Write>(&self, f: &mut fmt::Formatter<W>) -> fmt::Result {
+        write!(f, "{}", u8::from(*self))
+    }
+}
+
+impl Error for Refusal {}

@@ -3,6 +3,7 @@ ghost use Rattle.std.specs.Prelude.{◌≡◌};
 ghost use Rattle.scale.specs.Laws.{Scaled, greater, lesser, above};
 
 /// Grades in a total order with a least and a greatest one, and the rows that stand for them.
+// No `Ord` and no `Eq` above it: they would ask more of every scale that is written elsewhere.
 pub trait Scale: Copy {
     /// What lies in tables and buffers in place of a grade.
     type Row: Copy;
@@ -32,6 +33,7 @@ pub trait Scale: Copy {
 }
 
 /// The greater of two grades.
+#[tactic(auto, unfolding(crate::specs::Laws::greater))]
 pub fn greater_of<S: Scale>(a: S, b: S) -> S
     ensures { result ≡ greater S.Scale.scale.order a b }
 {
@@ -39,6 +41,7 @@ pub fn greater_of<S: Scale>(a: S, b: S) -> S
 }
 
 /// The lesser of two grades.
+#[tactic(auto, unfolding(crate::specs::Laws::lesser))]
 pub fn lesser_of<S: Scale>(a: S, b: S) -> S
     ensures { result ≡ lesser S.Scale.scale.order a b }
 {
@@ -46,6 +49,7 @@ pub fn lesser_of<S: Scale>(a: S, b: S) -> S
 }
 
 /// Is the grade above the bottom?
+#[tactic(auto, unfolding(crate::specs::Laws::above))]
 pub fn is_above_bottom<S: Scale>(a: S) -> bool
     ensures { result ≡ above S.Scale.scale.order a }
 {

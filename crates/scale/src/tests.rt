@@ -9,12 +9,12 @@ use std::test::Fail;
 
 #[test]
 fn points_from_0_to_100(rt: HostRuntime) -> Result<(), Fail> {
-    let low = Point::from_number(40)?;
-    let full = Point::from_number(100)?;
+    let low = Point::try_from(40)?;
+    let full = Point::try_from(100)?;
     assert!(rt; low.at_most(full) && !full.at_most(low));
     assert_eq!(rt; Point::read(101), Point::bottom());
-    assert_eq!(rt; Point::from_number(101), Err(Refusal::PointOutOfRange));
-    assert_eq!(rt; Refusal::PointOutOfRange.number(), 16);
+    assert_eq!(rt; Point::try_from(101), Err(Refusal::PointOutOfRange));
+    assert_eq!(rt; u8::from(Refusal::PointOutOfRange), 16);
     Ok(())
 }
 

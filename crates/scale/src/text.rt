@@ -1,13 +1,13 @@
 //! The text of a grade, held as a value.
-ghost use Rattle.std.specs.Prelude.{◌≡◌, ◌≤◌, length as count};
+ghost use Rattle.std.specs.Prelude.{◌≤◌, length};
+
+use arrayvec::ArrayString;
 
 mod bytes;
 
-/// At most 16 bytes.
-#[derive(Clone, Copy)]
+/// The text of a grade: at most 16 bytes, which lie in the value.
+#[derive(Clone, Copy, PartialEq, Eq, Debug)]
 pub struct GradeText {
-    bytes: [u8; 16],
-    length: u8,
-    ghost whole: { count bytes ≡ 16 },
-    ghost fits: { length ≤ 16 },
+    text: ArrayString<16>,
+    ghost fits: { length text.bytes ≤ 16 },
 }

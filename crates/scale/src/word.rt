@@ -4,7 +4,7 @@ ghost use Rattle.scale.specs.Words.{words};
 use crate::scale::Scale;
 
 /// The five words, from the least to the greatest.
-#[derive(Clone, Copy, PartialEq, Eq, Debug)]
+#[derive(Clone, Copy, PartialEq, Eq, PartialOrd, Ord, Debug)]
 pub enum Word {
     /// Not certain at all; its text is `none`.
     Nil,
@@ -20,7 +20,7 @@ impl Scale for Word {
     ghost scale = { words };
 
     fn at_most(self, other: Word) -> bool {
-        self as u8 <= other as u8
+        self <= other
     }
 
     fn bottom() -> Word {

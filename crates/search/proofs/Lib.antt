@@ -3,9 +3,9 @@ pub mod Passes
 pub mod Fixed
 pub mod Singles
 pub mod Forced
-pub mod Upper
-pub mod Split
-pub mod Objected
 pub mod Pivots
 pub mod Stables
+pub mod Upper
+pub mod Split
 pub mod Listed
+pub mod Objected

@@ -1,9 +1,9 @@
 -- The rules that a set breaks, by rank, and the candidate that is objected to least.
-use Rattle.std.proofs.Common.{◌≡◌, ℕ, zero, suc, ◌-◌, ◌^◌, ◌<◌, ◌≤◌, max, ◌&&◌, ◌⊎◌, List, [], ◌∷◌, ◌++◌, length, get_or, Some, None, Decides, Option, unwrap_or, sym, ◌∙◌, subst, inl, inr, ⊎_elim, arith, MatchOption}
-use Rattle.std.specs.List.{ContainsAt as Has}
-use Rattle.std.proofs.ByRecursion.{has_append_left, has_append_right, has_push, has_push_cases}
-use Rattle.std.proofs.lemmas.List.{get_or_default}
-use Rattle.std.proofs.lemmas.Bool.{both_ways, cases_Bool, cases_lt}
+use Rattle.std.proofs.Common.{◌≡◌, ℕ, ◌-◌, ◌^◌, ◌<◌, ◌≤◌, max, Bool, true, false, cond, true≢false, ◌&&◌, ◌⊎◌, List, [], ◌∷◌, map, get_or, Some, None, Decides, Option, leb, sym, refl, inl, inr, ⊎_elim, arith, MatchOption}
+use Rattle.std.specs.List.{All, Contains, filter, fold, list_any, reduce}
+use Rattle.std.proofs.lemmas.List.Elements.{All-nil, All-cons, All-contains, Contains-append_left, Contains-append_right, Contains-push}
+use Rattle.std.proofs.lemmas.List.Folds.{Any-from_list_any, list_any_at}
+use Rattle.std.proofs.lemmas.Bool.{both_ways, cases_Bool, cases_lt, le-leb, leb-true}
 use Rattle.std.proofs.lemmas.Bool.Decides.{Decides-and}
 use Rattle.semantics.specs.Sets.{disjoint}
 use Rattle.semantics.specs.Rules.{breaks}
@@ -11,116 +11,135 @@ use Rattle.semantics.specs.Plain.{weigh, Broken}
 use Rattle.semantics.specs.declared.rule.PlainRule.{PlainRule}
 use Rattle.semantics.proofs.Sets.{decides_disjoint}
 use Rattle.semantics.proofs.Reducts.{decides_breaks}
+use Rattle.semantics.proofs.Members.{option_weaker}
 use Rattle.search.specs.Admissible.{Fitting, NoSuch, Candidate, LeastObjected}
 use Rattle.search.specs.Objection.{Unbroken, Worst}
+use Rattle.search.specs.declared.bounds.Bounds.{Bounds}
 use Rattle.search.proofs.Bridge.{keeps-out, keeps_in}
 
--- ---- the worst of one rule more
+-- the test for a rule that the set breaks
+abbrev pub is_broken : ℕ → PlainRule → Bool
+is_broken A q = disjoint q.neg A && breaks A (weigh q q.rank)
 
-module _ (A : ℕ) (xs : List PlainRule) (x : PlainRule) where
-  push-most : (m n : ℕ) → ((q : PlainRule) → Has xs q → Broken A q → q.rank ≤ m) → m ≤ n → (Broken A x → x.rank ≤ n) → (q : PlainRule) → Has (xs ++ x ∷ []) q → Broken A q → q.rank ≤ n
-  push-most m n most l here q h b =
-      ⊎_elim (λ i. let k = most q i b in omega arith) (λ e. subst (λ (r : PlainRule). r.rank ≤ n) e (here (subst (Broken A) (sym e) b))) (has_push_cases xs x q h)
-
-  -- a rule that is not broken changes nothing
-  pub worst-kept : (o : Option ℕ) → (Broken A x → ⊥) → MatchOption o (Unbroken xs A) (Worst xs A) → MatchOption o (Unbroken (xs ++ x ∷ []) A) (Worst (xs ++ x ∷ []) A)
-  worst-kept None whole none = λ q h b. ⊎_elim (λ i. none q i b) (λ e. whole (subst (Broken A) (sym e) b)) (has_push_cases xs x q h)
-  worst-kept (Some n) whole w = record {
-    rule = w.rule;
-    stands = has_append_left xs (x ∷ []) w.rule w.stands;
-    broken = w.broken;
-    ranked = w.ranked;
-    most = push-most n n w.most (omega arith) (λ b. absurd (whole b));
-  }
-
-  -- a broken rule is the worst so far, or no worse
-  pub worst_more : (o : Option ℕ) → Broken A x → MatchOption o (Unbroken xs A) (Worst xs A) → Worst (xs ++ x ∷ []) A (max x.rank (unwrap_or o 0))
-  worst_more None b none = record {
-    rule = x;
-    stands = has_push xs x;
-    broken = b;
-    ranked = omega arith;
-    most = push-most 0 (max x.rank 0) (λ q h d. absurd (none q h d)) (omega arith) (λ d. omega arith);
-  }
-  worst_more (Some n) b w =
-      let most = push-most n (max x.rank n) w.most (omega arith) (λ d. omega arith) in
-      ⊎_elim
-      (λ (l : x.rank < n). record {
-        rule = w.rule;
-        stands = has_append_left xs (x ∷ []) w.rule w.stands;
-        broken = w.broken;
-        ranked = w.ranked ∙ omega arith;
-        most = most;
-      })
-      (λ (l : n ≤ x.rank). record { rule = x; stands = has_push xs x; broken = b; ranked = omega arith; most = most })
-      (cases_lt x.rank n)
-
--- ---- a rule of no lower rank than t that the set breaks, or none
-
-decides_broken : (A : ℕ) (q : PlainRule) → Decides (disjoint q.neg A && breaks A (weigh q q.rank)) (Broken A q)
+pub decides_broken : (A : ℕ) (q : PlainRule) → Decides (is_broken A q) (Broken A q)
 decides_broken A q =
     let d = Decides-and _ _ (decides_disjoint q.neg A) (decides_breaks A (weigh q q.rank)) in
     (λ t. let b = d.0 t in (b.0, b.1.0, b.1.1), λ b. d.1 (b.0, (b.1, b.2)))
 
-has_cases : (x : PlainRule) (xs : List PlainRule) (q : PlainRule) → Has (x ∷ xs) q → (x ≡ q) ⊎ Has xs q
-has_cases x xs q h = go h.0 h.1 (h.2 q)
-  where
-    go : (k : ℕ) → k < length (x ∷ xs) → get_or (x ∷ xs) k q ≡ q → (x ≡ q) ⊎ Has xs q
-    go zero l e = inl e
-    go (suc k) l e = inr (k, omega arith, λ d. get_or_default xs k d q (omega arith) ∙ e)
-
 module _ (t A : ℕ) where
-  -- some rule of the list is broken, with a rank from t on
-  abbrev Above : List PlainRule → Type 0
-  Above rs = (p : PlainRule) × Has rs p × Broken A p × (t ≤ p.rank)
+  abbrev strong_broken : PlainRule → Bool
+  strong_broken q = leb t q.rank && is_broken A q
 
-  -- every broken rule of the list has a rank below t
-  abbrev Below : List PlainRule → Type 0
-  Below rs = (q : PlainRule) → Has rs q → Broken A q → q.rank < t
+  decides-strong : (q : PlainRule) → Decides (strong_broken q) ((t ≤ q.rank) × Broken A q)
+  decides-strong q = Decides-and _ _ (leb-true t q.rank, le-leb t q.rank) (decides_broken A q)
 
-  above_or_below : (rs : List PlainRule) → Above rs ⊎ Below rs
-  above_or_below [] = inr (λ q h b. absurd (omega (arith, h.1)))
-  above_or_below (r ∷ rs) = ⊎_elim (λ p. inl (p.0, has_append_right (r ∷ []) rs p.0 p.1, p.2, p.3)) here (above_or_below rs)
+  -- some rule from the rank t on is broken, or none is
+  above_or_below : (rs : List PlainRule) → ((p : PlainRule) × Contains rs p × Broken A p × (t ≤ p.rank)) ⊎ All (λ q. Broken A q → q.rank < t) rs
+  above_or_below rs =
+      ⊎_elim
+      (λ e. let a = Any-from_list_any strong_broken rs e in let b = (decides-strong a.1).0 a.4 in inl (a.1, (a.0, a.2, a.3), b.1, b.0))
+      (λ e. inr (λ k d l b. ⊎_elim (λ i. i) (λ i. absurd (both_ways _ e (list_any_at strong_broken rs k d l ((decides-strong (get_or rs k d)).1 (i, b))))) (cases_lt _ t)))
+      (cases_Bool (list_any strong_broken rs))
+
+-- ---- the greatest rank of a broken rule
+
+module _ (A : ℕ) where
+  -- m is the rank of a rule of the list that is broken
+  abbrev Attained : List PlainRule → ℕ → Type 0
+  Attained rs m = (p : PlainRule) × Contains rs p × Broken A p × (p.rank ≡ m)
+
+  attained-tail : (q : PlainRule) (rs : List PlainRule) (m : ℕ) → Attained rs m → Attained (q ∷ rs) m
+  attained-tail q rs m a = (a.0, Contains-append_right (q ∷ []) rs a.0 a.1, a.2, a.3)
+
+  -- the rule, where it is broken, has at most the rank m
+  abbrev AtMost : ℕ → PlainRule → Type 0
+  AtMost m q = Broken A q → q.rank ≤ m
+
+  -- m is the greatest of n and the ranks of the rules that are broken
+  record Greatest (rs : List PlainRule) (n m : ℕ) : Type 0 where
+    bound : n ≤ m
+    most : All (AtMost m) rs
+    attained : (m ≡ n) ⊎ Attained rs m
+
+  greatest : (rs : List PlainRule) (n : ℕ) → Greatest rs n (fold max n (map (λ (q : PlainRule). q.rank) (filter (is_broken A) rs)))
+  greatest [] n = record { bound = omega arith; most = All-nil (AtMost n); attained = inl refl }
+  greatest (q ∷ rs) n = go (is_broken A q) (decides_broken A q) (greatest rs n) (greatest rs (max n q.rank))
     where
-      here : Below rs → Above (r ∷ rs) ⊎ Below (r ∷ rs)
-      here rest =
-          ⊎_elim
-          (λ (l : r.rank < t). inr (λ q h b. ⊎_elim (λ e. subst (λ (x : PlainRule). x.rank < t) e l) (λ i. rest q i b) (has_cases r rs q h)))
-          (λ (l : t ≤ r.rank).
-          ⊎_elim
-          (λ u. inl (r, has_append_left (r ∷ []) rs r (has_push [] r), (decides_broken A r).0 u, l))
-          (λ u. inr (λ q h b. ⊎_elim (λ e. absurd (both_ways _ u ((decides_broken A r).1 (subst (Broken A) (sym e) b)))) (λ i. rest q i b) (has_cases r rs q h)))
-          (cases_Bool (disjoint r.neg A && breaks A (weigh r r.rank))))
-          (cases_lt r.rank t)
+      ranks : List ℕ
+      ranks = map (λ (p : PlainRule). p.rank) (filter (is_broken A) rs)
+
+      go : (b : Bool) → Decides b (Broken A q) → Greatest rs n (fold max n ranks) → Greatest rs (max n q.rank) (fold max (max n q.rank) ranks) → Greatest (q ∷ rs) n (fold max n (map (λ (p : PlainRule). p.rank) (cond b (q ∷ filter (is_broken A) rs) (filter (is_broken A) rs))))
+      go true d g h = record {
+        bound = omega (arith, h.bound);
+        most = All-cons (AtMost _) q rs (λ b. omega (arith, h.bound)) h.most;
+        attained =
+            ⊎_elim
+            (λ e. ⊎_elim (λ l. inr (q, Contains-append_left (q ∷ []) rs q (Contains-push [] q), d.0 refl, omega (arith, e, l))) (λ l. inl (omega (arith, e, l))) (cases_lt n q.rank))
+            (λ a. inr (attained-tail q rs _ a))
+            h.attained;
+      }
+      go false d g h = record {
+        bound = g.bound;
+        most = All-cons (AtMost _) q rs (λ b. absurd (true≢false (sym (d.1 b)))) g.most;
+        attained = ⊎_elim inl (λ a. inr (attained-tail q rs _ a)) g.attained;
+      }
+
+  -- the greatest of the ranks of the rules that are broken
+  abbrev pub worst_rank : List PlainRule → Option ℕ
+  worst_rank rs = reduce max (map (λ (q : PlainRule). q.rank) (filter (is_broken A) rs))
+
+  from_greatest : (q : PlainRule) (rs : List PlainRule) (m : ℕ) → Broken A q → Greatest rs q.rank m → Worst (q ∷ rs) A m
+  from_greatest q rs m b g =
+      let most = All-cons (AtMost m) q rs (λ _. g.bound) g.most in
+      ⊎_elim
+      (λ e. record { rule = q; stands = Contains-append_left (q ∷ []) rs q (Contains-push [] q); broken = b; ranked = sym e; most = most })
+      (λ a. record { rule = a.0; stands = Contains-append_right (q ∷ []) rs a.0 a.1; broken = a.2; ranked = a.3; most = most })
+      g.attained
+
+  pub worst_reduced : (rs : List PlainRule) → MatchOption (worst_rank rs) (Unbroken rs A) (Worst rs A)
+  worst_reduced [] = All-nil (λ q. ¬ (Broken A q))
+  worst_reduced (q ∷ rs) = go (is_broken A q) (decides_broken A q) (worst_reduced rs)
+    where
+      go : (b : Bool) → Decides b (Broken A q) → MatchOption (worst_rank rs) (Unbroken rs A) (Worst rs A) → MatchOption (reduce max (map (λ (p : PlainRule). p.rank) (cond b (q ∷ filter (is_broken A) rs) (filter (is_broken A) rs)))) (Unbroken (q ∷ rs) A) (Worst (q ∷ rs) A)
+      go true d w = from_greatest q rs _ (d.0 refl) (greatest rs q.rank)
+      go false d w =
+          option_weaker (worst_rank rs) (Unbroken rs A) (Unbroken (q ∷ rs) A) (Worst rs A) (Worst (q ∷ rs) A) w
+          (λ none. All-cons (λ p. ¬ (Broken A p)) q rs (λ b. true≢false (sym (d.1 b))) none)
+          (λ m v. record {
+            rule = v.rule;
+            stands = Contains-append_right (q ∷ []) rs v.rule v.stands;
+            broken = v.broken;
+            ranked = v.ranked;
+            most = All-cons (AtMost m) q rs (λ b. absurd (true≢false (sym (d.1 b)))) v.most;
+          })
 
 -- ---- the candidates
 
-module _ (rs : List PlainRule) (present absent : ℕ) where
-  -- an admissible set that fits breaks no rule from the threshold on
-  fitting_below : (t A : ℕ) → Fitting t rs present absent A → (q : PlainRule) → Has rs q → Broken A q → q.rank < t
-  fitting_below t A f = keeps-out rs A t f.0.keeps
-
+module _ (rs : List PlainRule) (bounds : Bounds) where
   -- a candidate that breaks no rule from the threshold on is admissible
-  candidate_fitting : (t A : ℕ) → Candidate rs present absent A → ((q : PlainRule) → Has rs q → Broken A q → q.rank < t) → Fitting t rs present absent A
+  candidate_fitting : (t A : ℕ) → Candidate rs bounds A → All (λ q. Broken A q → q.rank < t) rs → Fitting t rs bounds A
   candidate_fitting t A c low = (record { below = c.below; founds = c.founds; keeps = keeps_in rs A t low }, c.fits)
 
   -- ---- the rounds: the best candidate so far, with the rank of the worst rule that it breaks; none before the first round
 
   abbrev pub Best : Option ℕ → ℕ → Type 0
-  Best best n = MatchOption best (n ≡ 2 ^ 64 - 1) (λ a. Candidate rs present absent a × Worst rs a n)
+  Best best n = MatchOption best (n ≡ 2 ^ 64 - 1) (λ a. Candidate rs bounds a × Worst rs a n)
 
   -- the next threshold is lower
-  pub worst_falls : (t A n : ℕ) → Fitting t rs present absent A → Worst rs A n → n < t
-  worst_falls t A n f w = omega (arith, fitting_below t A f w.rule w.stands w.broken, w.ranked)
+  pub worst_falls : (t A n : ℕ) → Fitting t rs bounds A → Worst rs A n → n < t
+  worst_falls t A n f w =
+      let below : w.rule.rank < t = All-contains (λ q. Broken A q → q.rank < t) rs w.rule (keeps-out rs A t f.0.keeps) w.stands w.broken in
+      omega (arith, w.ranked)
 
   -- no set is admissible at the last threshold
-  pub objected : (best : Option ℕ) (n : ℕ) → Best best n → NoSuch (Fitting n rs present absent) → MatchOption best (NoSuch (Candidate rs present absent)) (LeastObjected rs present absent)
-  objected None n top none = λ B c. none B (candidate_fitting n B c (λ q h b. omega (arith, q.low.1, top)))
+  pub objected : (best : Option ℕ) (n : ℕ) → Best best n → NoSuch (Fitting n rs bounds) → MatchOption best (NoSuch (Candidate rs bounds)) (LeastObjected rs bounds)
+  objected None n top none = λ B c. none B (candidate_fitting n B c (λ k d l b. omega (arith, (get_or rs k d).low.1, top)))
   objected (Some a) n (c, w) none = record {
     candidate = c;
     least = λ B d q h b.
+        let most : q.rank ≤ n = All-contains (λ q. Broken a q → q.rank ≤ n) rs q w.most h b in
         ⊎_elim
-        (λ p. (p.0, p.1, p.2, omega (arith, w.most q h b, p.3)))
+        (λ p. (p.0, p.1, p.2, omega (arith, p.3)))
         (λ low. absurd (none B (candidate_fitting n B d low)))
         (above_or_below n B rs);
   }

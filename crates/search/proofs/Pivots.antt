@@ -87,7 +87,7 @@ module _ (w k : ℕ) (l : k < w) where
 -- `higher` has the atoms above k
 module _ (w set k higher : ℕ) (low : set < 2 ^ w) (up : (x : ℕ) → Decides (has higher x) ((k < x) × (x < w))) where
   abbrev pub Wanted : ℕ → Type 0
-  Wanted A = Fits (adding (bit_and set higher) k) (bit_and (others w set) higher) A
+  Wanted A = Fits (record { present = adding (bit_and set higher) k; absent = bit_and (others w set) higher }) A
 
   pub wanted_turns : (A : ℕ) → Wanted A → In k A
   wanted_turns A f = f.0 k (adding_in (bit_and set higher) k)

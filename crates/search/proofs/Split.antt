@@ -1,144 +1,153 @@
--- A search at a partial choice by the searches below it.
+-- A search within bounds by the searches below it.
 use Rattle.std.proofs.Common.{◌≡◌, ℕ, ◌+◌, ◌^◌, ◌<◌, ◌≤◌, Option, sym, ◌∙◌, subst, ⊎_elim, arith, MatchOption}
 use lib.Bits.{bit_or}
 use Rattle.std.proofs.lemmas.Bool.{cases_Bool, cases_lt, cases_eq}
-use Rattle.semantics.specs.Sets.{width, has, adding, others, In, Out, Sub, Apart}
-use Rattle.semantics.proofs.Sets.{has_past, has-below, same_atoms, sub_anti, agree-lt, in_or, or_in_left, or_in_right, in_adding, adding_in, adding-keeps, in_others, out-others, others_below, not_both, out_from, apart_sym, apart_sub}
+use Rattle.semantics.specs.Sets.{width, has, adding, others, In, Out, Apart, Highest}
+use Rattle.semantics.proofs.Sets.{has_past, has-below, same_atoms, sub_anti, agree-lt, below-width, none_in, sub_le, in_or, or_in_left, or_in_right, in_adding, adding_in, adding-keeps, in_others, out-others, others_below, not_both, out_from, apart_sym, apart_sub}
 use Rattle.semantics.proofs.Members.{option_weaker}
 use Rattle.search.specs.Admissible.{Fits, Least, NoSuch}
-use Rattle.search.specs.Narrowed.{Narrowed, Of, DecidedFrom}
-use Rattle.search.proofs.Forced.{none-narrowed}
+use Rattle.search.specs.Narrowed.{Narrowed, Of}
+use Rattle.search.specs.declared.bounds.Bounds.{Bounds}
+use Rattle.search.proofs.Forced.{none-narrowed, room}
 
--- ---- what is decided
+-- the atoms that are decided
+abbrev pub decided : Bounds → ℕ
+decided b = bit_or b.present b.absent
 
-or_more : (a b c d : ℕ) → Sub a c → Sub b d → Sub (bit_or a b) (bit_or c d)
-or_more a b c d p q j h = ⊎_elim (λ i. or_in_left c d j (p j i)) (λ i. or_in_right c d j (q j i)) (in_or a b j h)
+-- the atom n present too, or absent too
+abbrev pub more_present : Bounds → ℕ → Bounds
+more_present b n = record { present = adding b.present n; absent = b.absent }
 
-pub decided-narrowed : (K : ℕ → Type 0) (k p a p' a' : ℕ) → DecidedFrom k p a → Narrowed K p a p' a' → DecidedFrom k p' a'
-decided-narrowed K k p a p' a' d n = record { decided = λ j l m. or_more p a p' a' n.keeps_present n.keeps_absent j (d.decided j l m) }
+abbrev pub more_absent : Bounds → ℕ → Bounds
+more_absent b n = record { present = b.present; absent = adding b.absent n }
 
--- at the greatest open atom n
-pub decided_open : (n k p a : ℕ) → DecidedFrom k p a → ((j : ℕ) → n < j → j < k → j < width → In j (bit_or p a)) → DecidedFrom (n + 1) p a
-decided_open n k p a d between =
-    record { decided = λ j h m. ⊎_elim (λ below. between j (omega arith) below m) (λ up. d.decided j up m) (cases_lt j k) }
+-- every atom from k up is decided
+pub record DecidedFrom (k : ℕ) (b : Bounds) : Type 0 where
+  pub decided : (x : ℕ) → k ≤ x → x < width → In x (decided b)
 
--- with no open atom
-decided-all : (k p a : ℕ) → DecidedFrom k p a → ((j : ℕ) → j < k → j < width → In j (bit_or p a)) → DecidedFrom 0 p a
-decided-all k p a d all =
-    record { decided = λ j h m. ⊎_elim (λ below. all j below m) (λ up. d.decided j up m) (cases_lt j k) }
+-- ---- the greatest open atom
 
--- every atom from n up is decided once n is
-upto : (n p a p' a' : ℕ) → DecidedFrom (n + 1) p a → Sub (bit_or p a) (bit_or p' a') → In n (bit_or p' a') → DecidedFrom n p' a'
-upto n p a p' a' d more here = record {
-  decided = λ j l m. ⊎_elim (λ is. subst (λ x. In x (bit_or p' a')) (sym is) here) (λ other. more j (d.decided j (omega arith) m)) (cases_eq j n);
-}
+module _ (b : Bounds) (lp : b.present < 2 ^ width) (la : b.absent < 2 ^ width) where
+  low : decided b < 2 ^ width
+  low = below-width width (decided b) (λ x i. ⊎_elim (has-below width b.present x lp) (has-below width b.absent x la) (in_or b.present b.absent x i))
 
-module _ (n p a : ℕ) (d : DecidedFrom (n + 1) p a) where
-  pub decided_absent : DecidedFrom n p (adding a n)
-  decided_absent = upto n p a p (adding a n) d (or_more p a p (adding a n) (λ j h. h) (adding-keeps a n)) (or_in_right p (adding a n) n (adding_in a n))
+  pub decided-all : others width (decided b) ≡ 0 → DecidedFrom 0 b
+  decided-all none = record {
+    decided = λ x _ m. ⊎_elim (λ i. i) (λ o. absurd (none_in x (subst (In x) none (in_others width (decided b) x m low o)))) (cases_Bool (has (decided b) x));
+  }
 
-  pub decided_present : DecidedFrom n (adding p n) a
-  decided_present = upto n p a (adding p n) a d (or_more p a (adding p n) a (adding-keeps p n) (λ j h. h)) (or_in_left (adding p n) a n (adding_in p n))
+  module _ (n : ℕ) (h : Highest n (others width (decided b))) where
+    pub decided_above : DecidedFrom (n + 1) b
+    decided_above = record {
+      decided = λ x l m. ⊎_elim (λ i. i) (λ o. absurd (not_both x (others width (decided b)) (in_others width (decided b) x m low o) (h.above x (omega arith)))) (cases_Bool (has (decided b) x));
+    }
+
+    open_atom : In n (decided b) → ⊥
+    open_atom i = not_both n (others width (decided b)) h.member (out-others width (decided b) n low i)
+
+    -- an atom more makes a greater number
+    adding_more : (A : ℕ) → A < 2 ^ width → (In n A → ⊥) → (A < adding A n) × (adding A n < 2 ^ width)
+    adding_more A l never =
+        let more : A ≤ adding A n = sub_le A (adding A n) (adding-keeps A n) in
+        let here : n < width = has-below width (others width (decided b)) n (others_below width (decided b)) h.member in (
+          ⊎_elim (λ e. absurd (never (subst (In n) (sym e) (adding_in A n)))) (λ d. omega (arith, d)) (cases_eq A (adding A n)),
+          below-width width (adding A n) (λ x i. ⊎_elim (has-below width A x l) (λ (e : x ≡ n). omega arith) (in_adding A n x i)),
+        )
+
+    pub room_present : room (more_present b n) < room b
+    room_present = let more = adding_more b.present lp (λ i. open_atom (or_in_left b.present b.absent n i)) in omega (arith, more.0, more.1)
+
+    pub room_absent : room (more_absent b n) < room b
+    room_absent = let more = adding_more b.absent la (λ i. open_atom (or_in_right b.present b.absent n i)) in omega (arith, more.0, more.1)
 
 -- ---- what fits
 
-fits_absent : (n p a b : ℕ) → Fits p a b → Out n b → Fits p (adding a n) b
-fits_absent n p a b f o = (
-  f.0,
-  λ j i. out_from j (adding a n) (λ t. ⊎_elim (λ u. not_both j a u (f.1 j i)) (λ q. not_both n b (subst (λ x. In x b) q i) o) (in_adding a n j t)),
-)
+module _ (n : ℕ) (b : Bounds) (A : ℕ) where
+  fits_absent : Fits b A → Out n A → Fits (more_absent b n) A
+  fits_absent f o = (
+    f.0,
+    λ j i. out_from j (adding b.absent n) (λ t. ⊎_elim (λ u. not_both j b.absent u (f.1 j i)) (λ q. not_both n A (subst (λ x. In x A) q i) o) (in_adding b.absent n j t)),
+  )
 
-fits_present : (n p a b : ℕ) → Fits p a b → In n b → Fits (adding p n) a b
-fits_present n p a b f i = (λ j t. ⊎_elim (f.0 j) (λ q. subst (λ x. In x b) (sym q) i) (in_adding p n j t), f.1)
+  fits_present : Fits b A → In n A → Fits (more_present b n) A
+  fits_present f i = (λ j t. ⊎_elim (f.0 j) (λ q. subst (λ x. In x A) (sym q) i) (in_adding b.present n j t), f.1)
 
-absent_fits : (n p a b : ℕ) → Fits p (adding a n) b → Fits p a b × Out n b
-absent_fits n p a b f = (
-  (f.0, apart_sub b a (adding a n) (adding-keeps a n) f.1),
-  apart_sym b (adding a n) f.1 n (adding_in a n),
-)
+  absent_fits : Fits (more_absent b n) A → Fits b A × Out n A
+  absent_fits f = (
+    (f.0, apart_sub A b.absent (adding b.absent n) (adding-keeps b.absent n) f.1),
+    apart_sym A (adding b.absent n) f.1 n (adding_in b.absent n),
+  )
 
-present_fits : (n p a b : ℕ) → Fits (adding p n) a b → Fits p a b
-present_fits n p a b f = (λ j i. f.0 j (adding-keeps p n j i), f.1)
+  present_fits : Fits (more_present b n) A → Fits b A
+  present_fits f = (λ j i. f.0 j (adding-keeps b.present n j i), f.1)
 
-fits_looser : (K : ℕ → Type 0) (p a p' a' b : ℕ) → Narrowed K p a p' a' → Fits p' a' b → Fits p a b
-fits_looser K p a p' a' b n fit =
-    (λ k i. fit.0 k (n.keeps_present k i), apart_sub b a a' n.keeps_absent fit.1)
+fits_looser : {K : ℕ → Type 0} {b c : Bounds} → Narrowed K b c → (A : ℕ) → Fits c A → Fits b A
+fits_looser {b = b} {c = c} n A fit =
+    (λ k i. fit.0 k (n.keeps_present k i), apart_sub A b.absent c.absent n.keeps_absent fit.1)
 
 -- two sets that fit agree from k up
-agree : (k p a b c : ℕ) → DecidedFrom k p a → b < 2 ^ width → c < 2 ^ width → Fits p a b → Fits p a c → (j : ℕ) → k ≤ j → has b j ≡ has c j
-agree k p a b c d lb lc fb fc j l =
+agree : {k : ℕ} {b : Bounds} → DecidedFrom k b → (A B : ℕ) → A < 2 ^ width → B < 2 ^ width → Fits b A → Fits b B → (j : ℕ) → k ≤ j → has A j ≡ has B j
+agree {k} {b} d A B la lb fa fb j l =
     ⊎_elim
     (λ m. ⊎_elim
-    (λ i. fb.0 j i ∙ sym (fc.0 j i))
-    (λ o. apart_sym b a fb.1 j o ∙ sym (apart_sym c a fc.1 j o))
-    (in_or p a j (d.decided j l m)))
-    (λ up. has_past width b j lb up ∙ sym (has_past width c j lc up))
+    (λ i. fa.0 j i ∙ sym (fb.0 j i))
+    (λ o. apart_sym A b.absent fa.1 j o ∙ sym (apart_sym B b.absent fb.1 j o))
+    (in_or b.present b.absent j (d.decided j l m)))
+    (λ up. has_past width A j la up ∙ sym (has_past width B j lb up))
     (cases_lt j width)
 
 -- where no atom is open the present ones are all but the absent ones
-decided-full : (p a : ℕ) → p < 2 ^ width → a < 2 ^ width → Apart p a → DecidedFrom 0 p a → others width a ≡ p
-decided-full p a lp la apart d =
-    sub_anti (others width a) p
-    (λ x i. ⊎_elim (λ j. j) (λ j. not_both x (others width a) i (out-others width a x la j)) (in_or p a x (d.decided x (omega arith) (has-below width (others width a) x (others_below width a) i))))
-    (λ x i. in_others width a x (has-below width p x lp i) la (apart x i))
+decided-full : (b : Bounds) → b.present < 2 ^ width → b.absent < 2 ^ width → Apart b.present b.absent → DecidedFrom 0 b → others width b.absent ≡ b.present
+decided-full b lp la apart d =
+    sub_anti (others width b.absent) b.present
+    (λ x i. ⊎_elim (λ j. j) (λ j. not_both x (others width b.absent) i (out-others width b.absent x la j)) (in_or b.present b.absent x (d.decided x (omega arith) (has-below width (others width b.absent) x (others_below width b.absent) i))))
+    (λ x i. in_others width b.absent x (has-below width b.present x lp i) la (apart x i))
 
 -- ---- the answers, for a property K of sets of atoms
 
-module _ (K : ℕ → Type 0) (low : (A : ℕ) → K A → A < 2 ^ width) where
-  module _ (p a : ℕ) (d : DecidedFrom 0 p a) (lp : p < 2 ^ width) (apart : Apart p a) where
-    leaf_least : K p → Least (Of K p a) p
-    leaf_least h = record {
-      passes = (h, (λ k i. i, apart));
-      least = λ b f. omega (arith, same_atoms b p (λ j. agree 0 p a b p d (low b f.0) lp f.1 (λ k i. i, apart) j (omega arith)));
-    }
-
-  module _ (n p a : ℕ) (d : DecidedFrom (n + 1) p a) where
-    least_absent : (A : ℕ) → Least (Of K p (adding a n)) A → Least (Of K p a) A
-    least_absent A l =
-        let f = absent_fits n p a A l.passes.1 in
-        record {
-          passes = (l.passes.0, f.0);
-          least = λ b g.
-              ⊎_elim
-              (λ i. let lt : A < b = agree-lt n A b (λ j m. agree (n + 1) p a A b d (low A l.passes.0) (low b g.0) f.0 g.1 j (omega arith)) f.1 i in omega arith)
-              (λ o. l.least b (g.0, fits_absent n p a b g.1 o))
-              (cases_Bool (has b n));
-        }
-
-    least_present : NoSuch (Of K p (adding a n)) → (A : ℕ) → Least (Of K (adding p n) a) A → Least (Of K p a) A
-    least_present none A l = record {
-      passes = (l.passes.0, present_fits n p a A l.passes.1);
-      least = λ b g.
-          ⊎_elim
-          (λ i. l.least b (g.0, fits_present n p a b g.1 i))
-          (λ o. absurd (none b (g.0, fits_absent n p a b g.1 o)))
-          (cases_Bool (has b n));
-    }
-
-    none_both : NoSuch (Of K p (adding a n)) → NoSuch (Of K (adding p n) a) → NoSuch (Of K p a)
-    none_both x y b g =
-        ⊎_elim (λ i. y b (g.0, fits_present n p a b g.1 i)) (λ o. x b (g.0, fits_absent n p a b g.1 o)) (cases_Bool (has b n))
-
--- what is least for a narrower choice is least for the choice
-least-narrowed : (K : ℕ → Type 0) (p a p' a' : ℕ) → Narrowed K p a p' a' → (A : ℕ) → Least (Of K p' a') A → Least (Of K p a) A
-least-narrowed K p a p' a' n A l = record {
-  passes = (l.passes.0, fits_looser K p a p' a' A n l.passes.1);
-  least = λ b g. l.least b (g.0, n.fits b g.0 g.1);
+-- what is least for narrower bounds is least for the bounds
+least-narrowed : {K : ℕ → Type 0} {b c : Bounds} → Narrowed K b c → {A : ℕ} → Least (Of K c) A → Least (Of K b) A
+least-narrowed n {A} l = record {
+  passes = (l.passes.0, fits_looser n A l.passes.1);
+  least = λ B g. l.least B (g.0, n.fits B g.0 g.1);
 }
 
--- the answer where the narrower choice leaves no atom open
-pub leaf : (K : ℕ → Type 0) → ((A : ℕ) → K A → A < 2 ^ width) → (k p a p' a' : ℕ) → p' < 2 ^ width → a' < 2 ^ width → DecidedFrom k p a → Narrowed K p a p' a' → Apart p' a' → (others width a' ≡ p' → K p') → ((j : ℕ) → j < k → j < width → In j (bit_or p' a')) → Least (Of K p a) p'
-leaf K low k p a p' a' lp la d n apart settled all =
-    let whole = decided-all k p' a' (decided-narrowed K k p a p' a' d n) all in
-    least-narrowed K p a p' a' n p' (leaf_least K low p' a' whole lp apart (settled (decided-full p' a' lp la apart whole)))
+module _ {K : ℕ → Type 0} (low : (A : ℕ) → K A → A < 2 ^ width) where
+  -- where no atom is open
+  leaf_least : (b : Bounds) → DecidedFrom 0 b → Apart b.present b.absent → K b.present → Least (Of K b) b.present
+  leaf_least b d apart h = record {
+    passes = (h, (λ k i. i, apart));
+    least = λ B f. omega (arith, same_atoms B b.present (λ j. agree d B b.present (low B f.0) (low b.present h) f.1 (λ k i. i, apart) j (omega arith)));
+  }
 
--- the answers at an open atom n
-module _ (K : ℕ → Type 0) (low : (A : ℕ) → K A → A < 2 ^ width) (n p a p' a' : ℕ) (m : Narrowed K p a p' a') (d : DecidedFrom (n + 1) p' a') where
-  pub found_absent : (A : ℕ) → Least (Of K p' (adding a' n)) A → Least (Of K p a) A
-  found_absent A l = least-narrowed K p a p' a' m A (least_absent K low n p' a' d A l)
+  -- the answer where the narrower bounds leave no atom open
+  pub leaf : {b : Bounds} (c : Bounds) → c.present < 2 ^ width → c.absent < 2 ^ width → Narrowed K b c → Apart c.present c.absent → (others width c.absent ≡ c.present → K c.present) → DecidedFrom 0 c → Least (Of K b) c.present
+  leaf c lp la n apart settled all = least-narrowed n (leaf_least c all apart (settled (decided-full c lp la apart all)))
 
-  pub then_present : NoSuch (Of K p' (adding a' n)) → (o : Option ℕ) → MatchOption o (NoSuch (Of K (adding p' n) a')) (Least (Of K (adding p' n) a')) → MatchOption o (NoSuch (Of K p a)) (Least (Of K p a))
-  then_present none o h =
-      option_weaker o (NoSuch (Of K (adding p' n) a')) (NoSuch (Of K p a)) (Least (Of K (adding p' n) a')) (Least (Of K p a)) h
-      (λ k. none-narrowed K p a p' a' m (none_both K low n p' a' d none k))
-      (λ A l. least-narrowed K p a p' a' m A (least_present K low n p' a' d none A l))
+  -- the answers at an open atom n
+  module _ (n : ℕ) {b c : Bounds} (m : Narrowed K b c) (d : DecidedFrom (n + 1) c) where
+    pub found_absent : {A : ℕ} → Least (Of K (more_absent c n)) A → Least (Of K b) A
+    found_absent {A} l =
+        let f = absent_fits n c A l.passes.1 in
+        least-narrowed m (record {
+          passes = (l.passes.0, f.0);
+          least = λ B g.
+              ⊎_elim
+              (λ i. let lt : A < B = agree-lt n A B (λ j o. agree d A B (low A l.passes.0) (low B g.0) f.0 g.1 j (omega arith)) f.1 i in omega arith)
+              (λ o. l.least B (g.0, fits_absent n c B g.1 o))
+              (cases_Bool (has B n));
+        })
+
+    pub then_present : NoSuch (Of K (more_absent c n)) → (o : Option ℕ) → MatchOption o (NoSuch (Of K (more_present c n))) (Least (Of K (more_present c n))) → MatchOption o (NoSuch (Of K b)) (Least (Of K b))
+    then_present none o h =
+        option_weaker o (NoSuch (Of K (more_present c n))) (NoSuch (Of K b)) (Least (Of K (more_present c n))) (Least (Of K b)) h
+        (λ k. none-narrowed m (λ B g. split B g (k B) (none B)))
+        (λ A l. least-narrowed m (record {
+          passes = (l.passes.0, present_fits n c A l.passes.1);
+          least = λ B g. split B g (l.least B) (λ f. absurd (none B f));
+        }))
+      where
+        -- a set has the atom or lacks it
+        split : {P : Type 0} (B : ℕ) → Of K c B → (Of K (more_present c n) B → P) → (Of K (more_absent c n) B → P) → P
+        split B g there lacking =
+            ⊎_elim (λ i. there (g.0, fits_present n c B g.1 i)) (λ o. lacking (g.0, fits_absent n c B g.1 o)) (cases_Bool (has B n))

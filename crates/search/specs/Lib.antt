@@ -3,3 +3,4 @@ pub mod Derived
 pub mod Narrowed
 pub mod Objection
 pub mod Listing
+pub mod StableSets

@@ -1,42 +1,56 @@
-//! Bounds that every admissible set keeps.
-ghost use Rattle.std.specs.Option.{MatchOption};
-ghost use Rattle.search.specs.Admissible.{NoSuch, Fitting};
-ghost use Rattle.search.specs.Narrowed.{Bounded};
+//! What is decided of the sets that are looked for.
+ghost use Rattle.std.specs.Prelude.{◌≡◌, Decides, bit_or};
+ghost use Rattle.semantics.specs.Sets.{width, adding, others, Apart};
 
-use crate::close::closure;
-use crate::force::{Bounds, propagate};
-use semantics::rule::PlainRule;
-use semantics::set::{AtomSet, complement, is_subset};
+use semantics::atom::Atom;
+use semantics::set::{AtomSet, complement, is_disjoint, with};
 
-/// Decides what every admissible set decides that has all of `present` and none of `absent`; `None` only where there is no
-/// such set. What the strong rules force comes first. Then the atoms that can still be derived are an upper bound, and all
-/// others are absent. So on until nothing changes.
-pub fn bounds(
-    rules: &[PlainRule],
-    threshold: usize,
-    present: AtomSet,
-    absent: AtomSet,
-) -> Option<Bounds>
-    ensures { MatchOption result (NoSuch (Fitting threshold rules.now present absent)) (λ b. Bounded threshold rules.now present absent b.present b.absent) }
-{
-    let mut b = propagate(rules, threshold, Bounds { present, absent })?;
-    loop {
-        let upper = closure(rules, b.present, complement(b.absent));
-        if !is_subset(b.present, upper) {
-            return None;
+/// What is decided: the atoms of `present` are in every set that is looked for, those of `absent` in none. The others are
+/// open.
+#[derive(Clone, Copy, PartialEq, Eq, Debug)]
+pub struct Bounds {
+    pub present: AtomSet,
+    pub absent: AtomSet,
+}
+
+impl Bounds {
+    /// Every atom is open.
+    pub const OPEN: Bounds = Bounds {
+        present: 0,
+        absent: 0,
+    };
+
+    /// Is no atom decided both ways?
+    pub(crate) fn is_consistent(self) -> bool
+        ensures { Decides result (Apart self.present self.absent) }
+    {
+        is_disjoint(self.present, self.absent)
+    }
+
+    /// The atoms that are not decided.
+    pub(crate) fn open(self) -> AtomSet
+        ensures { result ≡ others width (bit_or self.present self.absent) }
+    {
+        complement(self.present | self.absent)
+    }
+
+    /// The atom present too.
+    pub(crate) fn with_present(self, atom: Atom) -> Bounds
+        ensures { result ≡ record { present = adding self.present atom.number; absent = self.absent } }
+    {
+        Bounds {
+            present: with(self.present, atom),
+            ..self
         }
-        let rest = complement(upper);
-        if rest == b.absent {
-            return Some(b);
+    }
+
+    /// The atom absent too.
+    pub(crate) fn with_absent(self, atom: Atom) -> Bounds
+        ensures { result ≡ record { present = self.present; absent = adding self.absent atom.number } }
+    {
+        Bounds {
+            absent: with(self.absent, atom),
+            ..self
         }
-        let less = Bounds {
-            present: b.present,
-            absent: rest,
-        };
-        let next = propagate(rules, threshold, less)?;
-        if next.present == b.present && next.absent == rest {
-            return Some(next);
-        }
-        b = next;
     }
 }

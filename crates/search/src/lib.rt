@@ -4,7 +4,10 @@
 
 pub mod bounds;
 pub mod close;
-pub mod force;
-pub mod least;
+mod force;
+mod least;
 pub mod listing;
+mod narrow;
 pub mod objection;
+pub mod rules_at;
+pub mod stable_sets;

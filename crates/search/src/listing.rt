@@ -1,19 +1,21 @@
 //! The stable sets, in rising order.
-ghost use Rattle.std.specs.Prelude.{ℕ, ◌<◌, Decides, MatchOption};
+ghost use Rattle.std.specs.Prelude.{ℕ, ◌<◌, Decides};
 ghost use Rattle.semantics.specs.Sets.{width, has};
-ghost use Rattle.search.specs.Admissible.{NoSuch, Least, Stable};
+ghost use Rattle.search.specs.Admissible.{Finds, Stable};
 ghost use Rattle.search.specs.Listing.{Later, Branch};
 
-use crate::least::least;
+use crate::bounds::Bounds;
+use crate::rules_at::RulesAt;
 use semantics::atom::Atom;
+use semantics::atoms::Atoms;
 use semantics::rule::PlainRule;
-use semantics::set::{AtomSet, complement, contains, with};
+use semantics::set::{AtomSet, complement, with};
 
 /// The least stable set.
 pub fn first(rules: &[PlainRule]) -> Option<AtomSet>
-    ensures { MatchOption result (NoSuch (Stable rules.now)) (Least (Stable rules.now)) }
+    ensures { Finds (Stable rules.now) result }
 {
-    least(rules, 0, 0, 0)
+    RulesAt::all_strong(rules).least(Bounds::OPEN)
 }
 
 /// The atoms with a greater number.
@@ -26,24 +28,25 @@ fn above(atom: Atom) -> AtomSet
 
 /// The least stable set that has the atom, and agrees with `set` above it.
 fn first_from(rules: &[PlainRule], set: AtomSet, atom: Atom) -> Option<AtomSet>
-    ensures { MatchOption result (NoSuch (Branch rules.now set atom.number)) (Least (Branch rules.now set atom.number)) }
+    ensures { Finds (Branch rules.now set atom.number) result }
 {
     let higher = above(atom);
-    least(rules, 0, with(set & higher, atom), complement(set) & higher)
+    let agreeing = Bounds {
+        present: with(set & higher, atom),
+        absent: complement(set) & higher,
+    };
+    RulesAt::all_strong(rules).least(agreeing)
 }
 
 /// The least stable set above `set`.
 pub fn next_after(rules: &[PlainRule], set: AtomSet) -> Option<AtomSet>
-    ensures { MatchOption result (NoSuch (Later rules.now set)) (Least (Later rules.now set)) }
+    ensures { Finds (Later rules.now set) result }
 {
-    let mut number = 0;
-    while let Some(atom) = Atom::from_number(number) {
-        if !contains(set, atom) {
-            if let Some(next) = first_from(rules, set, atom) {
-                return Some(next);
-            }
+    // No `find_map`: that was tried, and what its clauses say did not give the contract.
+    for atom in Atoms::of(complement(set)) {
+        if let Some(next) = first_from(rules, set, atom) {
+            return Some(next);
         }
-        number += 1;
     }
     None
 }

@@ -2,7 +2,7 @@
 use Rattle.std.proofs.Common.{◌≡◌, ℕ, zero, suc, ◌^◌, ◌<◌, Bool, true, false, cond, not, ◌&&◌, List, [], ◌∷◌, map, sym, refl, ap, ◌∙◌, subst, inl, inr}
 use Rattle.scale.specs.Laws.{Order, Scaled, above}
 use Rattle.semantics.specs.Sets.{has, within, disjoint, adding}
-use Rattle.semantics.specs.Rules.{Rule, Among, those, positive, reduct, applicable, breaks, heads, derived, founded, stable}
+use Rattle.semantics.specs.Rules.{Rule, Among, positive, reduct, applicable, breaks, heads, derived, founded, stable}
 use Rattle.semantics.specs.Plain.{grade_of, weigh, weighted, truth}
 use Rattle.semantics.specs.Statements.{Fits, Graded, as_true}
 use Rattle.semantics.specs.declared.rule.PlainRule.{PlainRule}
@@ -82,7 +82,7 @@ alike_reduct A (r ∷ P) (s ∷ Q) a =
     go false ih = ih
 
 pub alike_applicable : {G H : Type 0} (A : ℕ) (P : List (Rule G)) (Q : List (Rule H)) → Alike P Q → Alike (applicable A P) (applicable A Q)
-unfolding applicable those
+unfolding applicable
 alike_applicable A [] [] a = tt
 alike_applicable A [] (s ∷ Q) a = absurd a
 alike_applicable A (r ∷ P) [] a = absurd a

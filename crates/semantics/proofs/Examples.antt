@@ -3,7 +3,7 @@ use Rattle.std.proofs.Common.{◌≡◌, ℕ, zero, suc, ◌≤◌, leb, List, [
 use Rattle.std.proofs.lemmas.Bool.{leb-true, le-leb, cases_lt}
 use Rattle.scale.specs.Laws.{Order, greater, lesser, above}
 use Rattle.semantics.specs.Sets.{has, within, disjoint, adding, collect}
-use Rattle.semantics.specs.Rules.{Rule, those, positive, reduct, applicable, breaks, heads, derived, founded, least_below, greatest_of, worst, gives, step, steps, consequences, support, reading, stable, stable_below, stable_sets, objection, least_among, necessity, conflict}
+use Rattle.semantics.specs.Rules.{Rule, positive, reduct, applicable, breaks, heads, derived, founded, least_below, greatest_of, worst, gives, step, steps, consequences, support, reading, stable, stable_below, stable_sets, objection, least_among, necessity, conflict}
 use Rattle.semantics.specs.Counting.{tally}
 use Rattle.semantics.specs.Statements.{size}
 
@@ -55,7 +55,7 @@ abbrev chain : List (Rule Level)
 chain = rule 0 0 0 high ∷ rule 1 1 0 mid ∷ rule 2 3 0 high ∷ rule 3 8 0 high ∷ rule 2 1 0 low ∷ []
 
 everything : Unit {0}
-unfolding greater lesser above has within disjoint adding collect those positive reduct applicable breaks heads derived founded least_below greatest_of worst gives step steps consequences support reading stable stable_below stable_sets objection least_among necessity conflict tally size
+unfolding greater lesser above has within disjoint adding collect positive reduct applicable breaks heads derived founded least_below greatest_of worst gives step steps consequences support reading stable stable_below stable_sets objection least_among necessity conflict tally size
 everything = tt
 
 grades : (consequences levels 4 chain 0 ≡ high) × (consequences levels 4 chain 1 ≡ mid) × (consequences levels 4 chain 2 ≡ mid) × (consequences levels 4 chain 3 ≡ none)

@@ -1,14 +1,15 @@
 -- The test `founded` decides `Founded`.
-use Rattle.std.proofs.Common.{◌≡◌, ℕ, zero, suc, Bool, true, not, List, [], ◌∷◌, ◌++◌, sym, refl, ◌∙◌, subst, inl, inr, ⊎_elim, true≢false, append_assoc, append-nil}
+use Rattle.std.proofs.Common.{◌≡◌, ℕ, zero, suc, Bool, true, not, List, [], ◌∷◌, ◌++◌, sym, refl, ◌∙◌, subst, inl, inr, ⊎_elim, true≢false, append_assoc, append-nil, filter}
+use Rattle.std.proofs.Math.Bool.{not-not}
 use Rattle.std.proofs.lemmas.Bool.{not-true}
 use Rattle.std.specs.List.Sorted.{IsPermutation}
-use Rattle.std.proofs.lemmas.List.Sorted.{IsPermutation-refl, IsPermutation-sym, IsPermutation-trans}
+use Rattle.std.proofs.lemmas.List.Sorted.{IsPermutation-refl, IsPermutation-sym, IsPermutation-trans, IsPermutation-append_left, IsPermutation-filter_both}
 use Rattle.semantics.specs.Sets.{within, In}
-use Rattle.semantics.specs.Rules.{Rule, Among, those, applicable, derived, founded}
+use Rattle.semantics.specs.Rules.{Rule, Among, applicable, derived, founded}
 use Rattle.semantics.specs.Founded.{Founded, Grounded, Heads}
 use Rattle.semantics.specs.Statements.{Fits}
 use Rattle.semantics.proofs.Sets.{decides_within}
-use Rattle.semantics.proofs.Those.{those_in, those-out, in_left, in_right, in_either, in_none, in_shuffled, over, parted}
+use Rattle.semantics.proofs.Those.{those_in, those-out, in_left, in_right, in_either, in_none, in_shuffled}
 use Rattle.semantics.proofs.Reducts.{applicable_sub, applicable-fits}
 use Rattle.semantics.proofs.Derive.{derived-none, derived-out, derived_rises, derived-closed, founded_sub, sub_founded}
 
@@ -28,20 +29,20 @@ module _ {G : Type 0} (Q : List (Rule G)) where
   -- the rules that are ready in none of the first n rounds, and those that are, the latest first
   waiting : ℕ → List (Rule G)
   waiting zero = Q
-  waiting (suc n) = those (λ r. not (ready n r)) (waiting n)
+  waiting (suc n) = filter (λ r. not (ready n r)) (waiting n)
 
   fired : ℕ → List (Rule G)
   fired zero = []
-  fired (suc n) = those (ready n) (waiting n) ++ fired n
+  fired (suc n) = filter (ready n) (waiting n) ++ fired n
 
   an_order : (n : ℕ) → IsPermutation Q (waiting n ++ fired n)
   unfolding waiting fired
   an_order zero = subst (IsPermutation Q) (sym (append-nil Q)) (IsPermutation-refl Q)
   an_order (suc n) =
-      let late = those (λ r. not (ready n r)) (waiting n) in
-      let now = those (ready n) (waiting n) in
+      let late = filter (λ r. not (ready n r)) (waiting n) in
+      let now = filter (ready n) (waiting n) in
       subst (IsPermutation Q) (append_assoc late now (fired n))
-      (IsPermutation-trans Q (waiting n ++ fired n) ((late ++ now) ++ fired n) (an_order n) (over (waiting n) (late ++ now) (fired n) (parted (ready n) (waiting n))))
+      (IsPermutation-trans Q (waiting n ++ fired n) ((late ++ now) ++ fired n) (an_order n) (IsPermutation-append_left (fired n) (waiting n) (late ++ now) (IsPermutation-filter_both (λ r. not (ready n r)) (ready n) (λ r. sym (not-not (ready n r))) (waiting n))))
 
   waiting_out : (n : ℕ) (r : Rule G) → Among r (waiting n) → Among r Q
   unfolding waiting
@@ -54,7 +55,7 @@ module _ {G : Type 0} (Q : List (Rule G)) where
   heads_fired (suc n) x t =
       let a = derived-out Q n x t in
       let r = a.0 in
-      let now = those (ready n) (waiting n) in (
+      let now = filter (ready n) (waiting n) in (
         r,
         ⊎_elim (λ i. in_left now (fired n) r (those_in (ready n) (waiting n) r i ((decides_within r.pos (derived Q n)).1 a.2))) (λ i. in_right now (fired n) r i)
             (in_either (waiting n) (fired n) r (in_shuffled (waiting n ++ fired n) Q (IsPermutation-sym Q (waiting n ++ fired n) (an_order n)) r a.1)),
@@ -65,7 +66,7 @@ module _ {G : Type 0} (Q : List (Rule G)) where
   unfolding fired ready
   fired_grounded zero = tt
   fired_grounded (suc n) =
-      grounded_more (those (ready n) (waiting n)) (fired n)
+      grounded_more (filter (ready n) (waiting n)) (fired n)
       (λ r i y t. heads_fired n y ((decides_within r.pos (derived Q n)).0 (those-out (ready n) (waiting n) r i).1 y t))
       (fired_grounded n)
 

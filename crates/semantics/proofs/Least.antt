@@ -79,13 +79,13 @@ module _ {G : Type 0} (o : Order G) where
       go false k = more k
 
   module _ (w : ℕ) (P : List (Rule G)) where
-    pub necessity-least : (x : ℕ) → LeastOf o w (necessity o w P x) (λ A. not (has A x)) (objection o w P)
+    pub necessity_least : (x : ℕ) → LeastOf o w (necessity o w P x) (λ A. not (has A x)) (objection o w P)
     unfolding necessity
-    necessity-least x = least_is_least w (λ A. not (has A x)) (objection o w P)
+    necessity_least x = least_is_least w (λ A. not (has A x)) (objection o w P)
 
-    pub conflict-least : LeastOf o w (conflict o w P) (λ A. true) (λ A. objection o w (reduct A P) A)
+    pub conflict_least : LeastOf o w (conflict o w P) (λ A. true) (λ A. objection o w (reduct A P) A)
     unfolding conflict
-    conflict-least = least_is_least w (λ A. true) (λ A. objection o w (reduct A P) A)
+    conflict_least = least_is_least w (λ A. true) (λ A. objection o w (reduct A P) A)
 
     -- the objection to a founded set is the bottom or the grade of a rule
     held_at : (A : ℕ) (g : G) → founded w (reduct A P) A ≡ true → objection o w (reduct A P) A ≡ g → (g ≡ o.bottom) ⊎ ((r : Rule G) × Among r P × (r.grade ≡ g))
@@ -99,9 +99,9 @@ module _ {G : Type 0} (o : Order G) where
     empty_founded : founded w (reduct 0 P) 0 ≡ true
     empty_founded = sub_founded w (reduct 0 P) 0 (λ x t. none_in x t)
 
-    pub conflict-held : (conflict o w P ≡ o.bottom) ⊎ ((r : Rule G) × Among r P × (r.grade ≡ conflict o w P))
-    conflict-held =
-        let a = conflict-least.attained 0 (pow_pos w) refl in
+    pub conflict_held : (conflict o w P ≡ o.bottom) ⊎ ((r : Rule G) × Among r P × (r.grade ≡ conflict o w P))
+    conflict_held =
+        let a = conflict_least.attained 0 (pow_pos w) refl in
         ⊎_elim (λ t. held_at a.0 (conflict o w P) t a.3)
         (λ n. held_at 0 (conflict o w P) empty_founded (low (sym a.3 ∙ objection_unfounded o w (reduct a.0 P) a.0 n)))
         (cases_Bool (founded w (reduct a.0 P) a.0))
@@ -111,12 +111,12 @@ module _ {G : Type 0} (o : Order G) where
         low e =
             o.antisymmetric (objection o w (reduct 0 P) 0) (conflict o w P)
             (subst (λ (g : G). o.at_most (objection o w (reduct 0 P) 0) g ≡ true) (sym e) (o.greatest (objection o w (reduct 0 P) 0)))
-            (conflict-least.below 0 (pow_pos w) refl)
+            (conflict_least.below 0 (pow_pos w) refl)
 
 module _ {G : Type 0} (o : Order G) (w : ℕ) (P : List (Rule G)) where
   -- the grades of a reading are necessities in the reduct
-  pub grades-least : Fits w P → (A x : ℕ) → x < w → LeastOf o w (reading o w P A x) (λ B. not (has B x)) (objection o w (reduct A P))
+  pub grades_least : Fits w P → (A x : ℕ) → x < w → LeastOf o w (reading o w P A x) (λ B. not (has B x)) (objection o w (reduct A P))
   unfolding reading
-  grades-least fits A x l =
+  grades_least fits A x l =
       subst (λ (g : G). LeastOf o w g (λ B. not (has B x)) (objection o w (reduct A P)))
-      (necessity_is_grade o w (reduct A P) (reduct-fits w A P fits) x l) (necessity-least o w (reduct A P) x)
+      (necessity_is_grade o w (reduct A P) (reduct-fits w A P fits) x l) (necessity_least o w (reduct A P) x)

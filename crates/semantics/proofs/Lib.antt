@@ -16,3 +16,4 @@ pub mod Least
 pub mod Fixpoints
 mod Examples
 pub mod Members
+pub mod Walk

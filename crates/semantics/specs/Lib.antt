@@ -1,3 +1,4 @@
+pub mod Atoms
 pub mod Sets
 pub mod Counting
 pub mod Rules
@@ -5,3 +6,4 @@ pub mod Founded
 pub mod Plain
 pub mod Statements
 pub mod Steps
+pub mod Members

@@ -48,3 +48,8 @@ Apart A B = (x : ℕ) → In x A → Out x B
 pub record Lowest (x A : ℕ) : Type 0 where
   pub member : In x A
   pub below : (y : ℕ) → y < x → Out y A
+
+-- and the highest
+pub record Highest (x A : ℕ) : Type 0 where
+  pub member : In x A
+  pub above : (y : ℕ) → x < y → Out y A

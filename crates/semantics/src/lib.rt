@@ -3,7 +3,9 @@
 #![tactic(auto)]
 
 pub mod atom;
+pub mod atoms;
 pub mod broken;
+mod numbering;
 pub mod rule;
 pub mod set;
 pub mod theory;

@@ -1,13 +1,14 @@
 //! Sets of atoms as masks: atom x has the weight 2^x.
 ghost use Rattle.std.specs.Prelude.{◌≡◌, ℕ, not, ◌&&◌, Decides, MatchOption, ◌==◌};
-ghost use Rattle.semantics.specs.Sets.{width, has, within, disjoint, adding, others, Sub, Apart, Lowest};
+ghost use Rattle.semantics.specs.Sets.{width, has, within, disjoint, adding, others, Sub, Apart, Lowest, Highest};
 
 use crate::atom::Atom;
 
-/// A set of atoms.
+/// A set of atoms. One number and no struct: bodies and sets come and go as numbers, and lie so in the tables.
 pub type AtomSet = u64;
 
 /// Is every atom of `a` one of `b`?
+#[tactic(auto, using(crate::proofs::Sets::decides_within), unfolding(crate::specs::Sets::within))]
 pub fn is_subset(a: AtomSet, b: AtomSet) -> bool
     ensures test { result ≡ within a b }
     ensures says { Decides result (Sub a b) }
@@ -16,6 +17,7 @@ pub fn is_subset(a: AtomSet, b: AtomSet) -> bool
 }
 
 /// Do `a` and `b` share no atom?
+#[tactic(auto, using(crate::proofs::Sets::decides_disjoint), unfolding(crate::specs::Sets::disjoint))]
 pub fn is_disjoint(a: AtomSet, b: AtomSet) -> bool
     ensures test { result ≡ disjoint a b }
     ensures says { Decides result (Apart a b) }
@@ -38,6 +40,7 @@ pub fn with(set: AtomSet, atom: Atom) -> AtomSet
 }
 
 /// All atoms but those of the set.
+#[tactic(auto, unfolding(crate::specs::Sets::others))]
 pub fn complement(set: AtomSet) -> AtomSet
     ensures { result ≡ others width set }
 {
@@ -48,10 +51,14 @@ pub fn complement(set: AtomSet) -> AtomSet
 pub fn lowest(set: AtomSet) -> Option<Atom>
     ensures { MatchOption result (set ≡ 0) (λ atom. Lowest atom.number set) }
 {
-    if set == 0 {
-        return None;
-    }
-    Atom::from_number(set.trailing_zeros() as usize)
+    Atom::try_from(set.trailing_zeros() as usize).ok()
+}
+
+/// The highest atom of the set, where it has any.
+pub fn highest(set: AtomSet) -> Option<Atom>
+    ensures { MatchOption result (set ≡ 0) (λ atom. Highest atom.number set) }
+{
+    Atom::try_from(set.checked_ilog2()? as usize).ok()
 }
 
 /// The set without the atom.

@@ -1,4 +1,4 @@
-//! The theory of weighted rules: each function's contract is a theorem, and its answer says nothing.
+//! The theory of weighted rules: each function's contract is a theorem, and its call does nothing.
 ghost use Rattle.semantics.specs.Statements.{WithinSays, DisjointSays, SameAtoms, HasIsWeight};
 ghost use Rattle.semantics.specs.Statements.{AddingSays, OthersSays, CollectSays, ReductSays};
 ghost use Rattle.semantics.specs.Statements.{StepIsMonotone, ConsequencesAreLeastFixpoint};
@@ -12,7 +12,7 @@ ghost use Rattle.semantics.specs.Statements.{GradesAreNecessities, ConflictIsLea
 ghost use Rattle.semantics.specs.Statements.{BottomConflictIffSomeStable, ConflictIsHeldGrade};
 
 /// What the tests and operations on sets say, atom by atom.
-pub fn sets_by_atoms() -> u8
+pub fn sets_by_atoms()
     ensures within { WithinSays }
     ensures disjoint { DisjointSays }
     ensures same { SameAtoms }
@@ -20,109 +20,86 @@ pub fn sets_by_atoms() -> u8
     ensures adding { AddingSays }
     ensures others { OthersSays }
     ensures collect { CollectSays }
-{
-    0
-}
+{}
 
 /// Which rules a reduct has.
-pub fn reduct_says<G>() -> u8
+pub fn reduct_says<G>()
     ensures { ReductSays G }
-{
-    0
-}
+{}
 
 /// The step keeps the order of graded sets.
-pub fn step_is_monotone<G>() -> u8
+#[tactic(auto, using(crate::proofs::Stages::step_monotone))]
+pub fn step_is_monotone<G>()
     ensures { StepIsMonotone G }
-{
-    0
-}
+{}
 
 /// The consequences are the least graded set that a step does not alter.
-pub fn consequences_are_least_fixpoint<G>() -> u8
+pub fn consequences_are_least_fixpoint<G>()
     ensures { ConsequencesAreLeastFixpoint G }
-{
-    0
-}
+{}
 
 /// A reading is fixed after as many steps as it has atoms.
-pub fn reading_settles<G>() -> u8
+#[tactic(auto, using(crate::proofs::Fixpoints::consequences_settle, crate::proofs::Fixpoints::reading_settles_lem))]
+pub fn reading_settles<G>()
     ensures reading { ReadingSettles G }
     ensures consequences { ConsequencesSettle G }
-{
-    0
-}
+{}
 
 /// The test for founded sets decides what they are in words.
-pub fn founded_test_decides<G>() -> u8
+pub fn founded_test_decides<G>()
     ensures { FoundedTestDecides G }
-{
-    0
-}
+{}
 
 /// A stable set is one that is founded in its reduct and breaks no rule of it.
-pub fn stable_iff_founded_unbroken<G>() -> u8
+pub fn stable_iff_founded_unbroken<G>()
     ensures { StableIffFoundedUnbroken G }
-{
-    0
-}
+{}
 
 /// Stable sets and their readings are the graded sets that follow from the reduct by their support.
-pub fn stable_reading_is_fixpoint<G>() -> u8
+pub fn stable_reading_is_fixpoint<G>()
     ensures reading { StableReadingIsFixpoint G }
     ensures support { StableIffSupport G }
-{
-    0
-}
+{}
 
 /// The list of the stable sets has them all, rising.
-pub fn listed_are_all_stable<G>() -> u8
+#[tactic(auto, using(crate::proofs::Listing::lists_stable))]
+pub fn listed_are_all_stable<G>()
     ensures { ListedAreAllStable G }
-{
-    0
-}
+{}
 
 /// Which sets are stable does not hang on the scale, nor on the grades above the bottom.
-pub fn stable_on_any_scale<G>() -> u8
+#[tactic(auto, using(crate::proofs::Alike::stable_on_truth))]
+pub fn stable_on_any_scale<G>()
     ensures { StableOnAnyScale G }
-{
-    0
-}
+{}
 
 /// Nothing is held against a set exactly where it is stable.
-pub fn bottom_objection_iff_stable<G>() -> u8
+pub fn bottom_objection_iff_stable<G>()
     ensures stable { BottomObjectionIffStable G }
     ensures support { BottomObjectionIffSupport G }
-{
-    0
-}
+{}
 
 /// An atom's grade is its necessity: the least objection among the sets without it.
-pub fn necessity_is_consequence<G>() -> u8
+#[tactic(auto, using(crate::proofs::Objections::necessity_is_grade, crate::proofs::Least::necessity_least, crate::proofs::Least::grades_least))]
+pub fn necessity_is_consequence<G>()
     ensures consequence { NecessityIsConsequence G }
     ensures least { NecessityIsLeastObjection G }
     ensures grades { GradesAreNecessities G }
-{
-    0
-}
+{}
 
 /// The conflict is the least objection among all sets.
-pub fn conflict_is_least_objection<G>() -> u8
+#[tactic(auto, using(crate::proofs::Least::conflict_least))]
+pub fn conflict_is_least_objection<G>()
     ensures { ConflictIsLeastObjection G }
-{
-    0
-}
+{}
 
 /// The conflict is the bottom exactly where some set is stable.
-pub fn bottom_conflict_iff_some_stable<G>() -> u8
+pub fn bottom_conflict_iff_some_stable<G>()
     ensures { BottomConflictIffSomeStable G }
-{
-    0
-}
+{}
 
 /// The conflict is the bottom or the grade of a rule.
-pub fn conflict_is_held_grade<G>() -> u8
+#[tactic(auto, using(crate::proofs::Least::conflict_held))]
+pub fn conflict_is_held_grade<G>()
     ensures { ConflictIsHeldGrade G }
-{
-    0
-}
+{}

@@ -3,31 +3,47 @@
 #![tactic(auto)]
 
 mod line;
-mod printing;
+mod reply;
 mod script;
 
-use printing::{print_answers, print_stop};
-use rulebase::call::Answer;
-use rulebase::rule::EMPTY;
+use reply::Reply;
+use rulebase::call::{Answer, Call};
+use rulebase::rule::Rule;
 use rulebase::running::run_all;
 use scale::point::Point;
-use script::{CALLS, read_script};
+use scale::scale::Scale;
+use script::{Step, read_script};
 use semantics::atom::ATOMS;
+use std::alloc::Global;
 use std::io;
 
 /// So many places has the rule base.
 const PLACES: usize = 16;
 
+/// Performs the calls of the steps in order, and prints each line with its answer. Each call has an answer and rows of
+/// its own, so all of them are performed.
+fn perform(rt: &impl Print, heap: Global, steps: &[Step]) -> io::Result<()> {
+    let calls: Vec<Call<Point>> = steps.iter().map(|step| step.call).collect(heap)?;
+    let bottom = Point::bottom().row();
+    // Two tables, since a rule base is opened over two that it is lent.
+    let mut rules = [Rule::EMPTY; PLACES];
+    let mut rows = [bottom; PLACES];
+    let mut answers = vec![in heap; Ok(Answer::<Point>::Done); calls.len()]?;
+    let mut readings = vec![in heap; [bottom; ATOMS]; calls.len()]?;
+    let buffer = readings.as_flattened_mut();
+    run_all::<Point>(&mut rules, &mut rows, &calls, &mut answers, buffer);
+    for ((step, &answer), rows) in steps.iter().zip(&answers).zip(&readings) {
+        println!(rt; "{}: {}", step.line, Reply { answer, rows })?;
+    }
+    Ok(())
+}
+
 fn main(rt: HostRuntime) -> io::Result<()> {
-    let script = read_script(&rt)?;
-    let lines = script.lines.as_slice();
-    let count = lines.len().min(CALLS);
-    let mut rules = [EMPTY; PLACES];
-    let mut rows = [0u8; PLACES];
-    let mut answers = [Answer::<Point>::NoMore; CALLS];
-    let mut readings = [0u8; CALLS * ATOMS];
-    let calls = &script.calls[0..count];
-    let _ = run_all::<Point>(&mut rules, &mut rows, calls, &mut answers, &mut readings);
-    print_answers(&rt, lines, &answers, &readings)?;
-    print_stop(&rt, lines.len(), script.stop)
+    let heap = rt.alloc();
+    let script = read_script(&rt, heap)?;
+    perform(&rt, heap, &script.steps)?;
+    if let Some(stop) = script.stop {
+        println!(rt; "line {}: {stop}", script.steps.len() + 1)?;
+    }
+    Ok(())
 }

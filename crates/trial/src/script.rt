@@ -2,70 +2,75 @@
 use crate::line::parse_call;
 use rulebase::call::Call;
 use scale::point::Point;
-use std::alloc::{AllocError, Global};
-use std::io;
+use std::alloc::Global;
+use std::{fmt, io};
 
 /// At most so many calls.
-pub const CALLS: usize = 128;
+const CALLS: usize = 128;
 
-/// Why the script stops.
-#[derive(Clone, Copy)]
+/// Why a script stops before its end.
+#[derive(Clone, Copy, PartialEq, Eq, Debug)]
 pub enum Stop {
-    End,
     NotACall,
     TooManyCalls,
 }
 
-/// The lines that are calls, for each its call, and why there are no more. Calls beyond the lines mean nothing.
+impl fmt::Display for Stop {
+    fn fmt<W: fmt::Write>(&self, f: &mut fmt::Formatter<W>) -> fmt::Result {
+        f.write_str(match self {
+            Stop::NotACall => "not a call",
+            Stop::TooManyCalls => "too many calls",
+        })
+    }
+}
+
+/// A line that is a call.
+#[derive(Drop)]
+pub struct Step {
+    pub line: String,
+    pub call: Call<Point>,
+}
+
+impl Step {
+    /// The step that a line is, as it was read; none where it is no call. A line that is no text is no call.
+    fn read(heap: Global, line: io::Result<String>) -> io::Result<Option<Step>> {
+        let line = match line {
+            Err(error) if error.kind() == io::ErrorKind::InvalidData => return Ok(None),
+            line => line?,
+        };
+        let call = parse_call(heap, &line)?;
+        Ok(call.map(|call| Step { line, call }))
+    }
+}
+
+/// The lines that are calls, and why they end before the input does.
 #[derive(Drop)]
 pub struct Script {
-    pub lines: Vec<String>,
-    pub calls: [Call<Point>; CALLS],
-    pub stop: Stop,
+    pub steps: Vec<Step>,
+    pub stop: Option<Stop>,
 }
 
-/// Takes one line into the script, or stops it there.
-fn take(heap: Global, script: &mut Script, line: String) -> Result<(), AllocError> {
-    let Some(call) = parse_call(heap, line.as_str())? else {
-        script.stop = Stop::NotACall;
-        return Ok(());
-    };
-    let count = script.lines.len();
-    if count >= CALLS {
-        script.stop = Stop::TooManyCalls;
-        return Ok(());
-    }
-    script.calls[count] = call;
-    script.lines.push(line)?;
-    Ok(())
-}
-
-/// Takes a line as it was read. One that is no text is no call.
-fn take_read(heap: Global, script: &mut Script, line: io::Result<String>) -> io::Result<()> {
-    match line {
-        Ok(line) => Ok(take(heap, script, line)?),
-        Err(error) => {
-            if error.kind() != io::ErrorKind::InvalidData {
-                return Err(error);
-            }
-            script.stop = Stop::NotACall;
-            Ok(())
+impl Script {
+    /// The same steps, stopped at the line below them.
+    fn stopped(self, stop: Stop) -> Script {
+        Script {
+            stop: Some(stop),
+            ..self
         }
     }
 }
 
 /// Reads the script from standard input.
-pub fn read_script(rt: &HostRuntime) -> io::Result<Script> {
-    let heap = rt.alloc();
+pub fn read_script(rt: &impl Input, heap: Global) -> io::Result<Script> {
     let mut script = Script {
-        lines: Vec::new(heap),
-        calls: [Call::Conflict; CALLS],
-        stop: Stop::End,
+        steps: Vec::new(heap),
+        stop: None,
     };
     for line in rt.lines(heap) {
-        take_read(heap, &mut script, line)?;
-        if !matches!(script.stop, Stop::End) {
-            break;
+        match Step::read(heap, line)? {
+            Some(step) if script.steps.len() < CALLS => script.steps.push(step)?,
+            Some(_) => return Ok(script.stopped(Stop::TooManyCalls)),
+            None => return Ok(script.stopped(Stop::NotACall)),
         }
     }
     Ok(script)

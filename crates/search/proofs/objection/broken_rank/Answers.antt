@@ -1,19 +1,26 @@
-use Rattle.std.proofs.lemmas.List.{take_all}
-use Rattle.std.proofs.lemmas.Bool.Decides.{not_from_Decides}
-use Rattle.search.proofs.Objected.{worst-kept, worst_more}
-use Rattle.search.proofs.Passes.{taken_more}
+use Rattle.std.proofs.Common.{◌≡◌, Decides, sym, ap, ◌∙◌, subst, rules, MatchOption}
+use borrow.Author.Tests.{tests}
+use Rattle.std.specs.Iterator.Adapters.{filter_callee}
+use Rattle.std.proofs.lemmas.Bool.Decides.{same_from_decides}
+use Rattle.std.proofs.lemmas.Iterator.{YieldsList-from_slice, YieldsList-from_map}
+use Rattle.std.proofs.lemmas.Iterator.Adapters.{option_map_id}
+use Rattle.std.proofs.lemmas.Iterator.Consumers.{YieldsList-from_filter, max_from_yields_List}
+use Rattle.semantics.specs.Plain.{Broken}
+use Rattle.semantics.specs.declared.rule.PlainRule.{PlainRule}
+use Rattle.search.specs.Objection.{Unbroken, Worst}
+use Rattle.search.proofs.Objected.{is_broken, decides_broken, worst_rank, worst_reduced}
 use Rattle.search.proofs.objection.broken_rank.Goals as goal
-use Rattle.search.proofs.objection.broken_rank.Goals.{then-is_broken, else-is_broken}
 
-pub loop-rule-preserved : goal.loop-rule-preserved
-loop-rule-preserved c =
-    rw (taken_more c.args.rules.now c.loop-rule.rule-index c.rule-item.result c.loop-rule-test.true c.rule-item.is)
-    (elim c.if-is_broken.branch [
-      | then-is_broken w ↦
-          rw (w.worst-is, w.max.ensures, w.unwrap_or.ensures)
-          (worst_more _ _ _ c.loop-rule.worst (c.is_broken.ensures.0 w.if-is_broken.true) c.loop-rule.invariant)
-      | else-is_broken w ↦ rw w.worst-is (worst-kept _ _ _ c.loop-rule.worst (not_from_Decides _ c.is_broken.ensures w.if-is_broken.false) c.loop-rule.invariant)
-    ])
+-- the chain gives the greatest of the ranks of the rules that are broken
+greatest : (c : goal.After-max) → c.max.result ≡ worst_rank c.args.set c.args.rules.now
+greatest c =
+    sym (option_map_id _)
+    ∙ max_from_yields_List _ c.max.result c.max.ensures.ran
+    (YieldsList-from_map _ (λ (q : PlainRule). q.rank)
+    (YieldsList-from_filter _ (is_broken c.args.set) (YieldsList-from_slice c.args.rules.now cc) (ap filter_callee c.map.ensures.source ∙ c.filter.ensures.closure)
+    (λ x b q k. let says : Decides b (Broken c.args.set x.now) = search (rules, tests) in (search (rules, tests), same_from_decides b _ says (decides_broken c.args.set x.now))))
+    c.map.ensures.closure (λ x r q k. search (rules, tests)))
 
 pub returns : goal.returns
-returns c = rw (take_all c.loop-rule.rule-index c.args.rules.now c.loop-rule-test.false) at c.loop-rule.invariant
+returns c =
+    subst (λ o. MatchOption o (Unbroken c.args.rules.now c.args.set) (Worst c.args.rules.now c.args.set)) (sym (greatest c)) (worst_reduced c.args.set c.args.rules.now)

@@ -1,26 +1,26 @@
-use Rattle.std.proofs.Common.{List, subst}
+use Rattle.std.proofs.Common.{◌≡◌}
 use Rattle.semantics.specs.Plain.{weighted}
-use Rattle.semantics.specs.declared.rule.PlainRule.{PlainRule}
-use Rattle.search.specs.Admissible.{NoSuch, Least}
-use Rattle.rulebase.specs.Ahead.{start, Ahead}
-use Rattle.rulebase.specs.Held.{listed}
+use Rattle.rulebase.specs.Calls.{state_in}
+use Rattle.rulebase.specs.Reference.{held}
+use Rattle.rulebase.specs.Tables.{state_of}
 use Rattle.rulebase.proofs.ReadOut.{read_none, read_some, laid-rows}
 use Rattle.rulebase.proofs.base.RuleBase.read_next.Goals as goal
 
-pub returns-in_default : goal.returns-in_default
-returns-in_default g c =
+pub returns-in_err-set : goal.returns-in_err-set
+unfolding state_of
+returns-in_err-set g c =
+    let s = g.S.Scale.scale in
     let b = c.args.self.now in
-    let rs = listed c.read_out-held.result in
-    read_none g.S.Scale.scale b.rules.now b.grades.rows.now rs c.read_out-held.ensures b.cursor c.args.buffer.now
-    (subst (λ (q : List PlainRule). NoSuch (Ahead q (start b.cursor))) c.rules.ensures c.in_default.ensures)
+    let rs = c.as_slice-rules.result.now in
+    let read : weighted s rs b.grades.rows.now ≡ held (state_in s b).places = cc (c.as_slice-rules.ensures.value, c.held_rules-held.ensures) in
+    simp c.from_residual.ensures (read_none s b.rules.now b.grades.rows.now rs read b.cursor c.args.buffer.now c.in_err-set.ensures)
 
 pub returns : goal.returns
+unfolding state_of
 returns g c =
     let s = g.S.Scale.scale in
     let b = c.args.self.now in
-    let rs = listed c.read_out-held.result in
-    let rows = b.grades.rows.now in
-    let laid = laid-rows s (weighted s c.rules-2.result.now rows) c.in-Some.set c.args.buffer.now c.consequences.new.into c.consequences.result c.consequences.ensures c.requires in
-    read_some s b.rules.now rows rs c.read_out-held.ensures b.cursor c.args.buffer.now c.consequences.new.into c.in-Some.set
-    (subst (λ (q : List PlainRule). Least (Ahead q (start b.cursor)) c.in-Some.set) c.rules.ensures c.in-Some.ensures)
-    c.requires (simp c.rules-2.ensures at laid)
+    let rs = c.as_slice-rules.result.now in
+    let read : weighted s rs b.grades.rows.now ≡ held (state_in s b).places = cc (c.as_slice-rules.ensures.value, c.held_rules-held.ensures) in
+    let laid = laid-rows s (weighted s rs b.grades.rows.now) c.in_ok-set.set c.args.buffer.now c.consequences.new.into c.consequences.result c.consequences.ensures c.requires in
+    read_some s b.rules.now b.grades.rows.now rs read b.cursor c.args.buffer.now c.consequences.new.into c.in_ok-set.set c.in_ok-set.ensures c.requires laid
