@@ -15,8 +15,8 @@ use Rattle.semantics.proofs.Reducts.{Fails, broken_in, broken-out}
 use Rattle.semantics.proofs.Objections.{objection-founded, objection_unfounded}
 use Rattle.semantics.proofs.Alike.{alike_weighted, alike_reduct, alike_founded}
 use Rattle.semantics.proofs.Least.{conflict_least}
-use Rattle.search.specs.Admissible.{NoSuch, Candidate, LeastObjected, undecided}
-use Rattle.search.proofs.Forced.{fits_any}
+use Rattle.search.specs.Admissible.{NoSuch, Candidate, LeastObjected}
+use Rattle.search.proofs.Forced.{undecided, fits_any}
 use Rattle.grading.specs.Ranks.{grades, rank_among, ranks, ranks_of}
 use Rattle.grading.proofs.Ranking.{weighted-same, rank-keeps, grade_among, ranks_at, same_length, same_place, same-grades}
 

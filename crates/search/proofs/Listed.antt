@@ -6,9 +6,9 @@ use Rattle.semantics.specs.Sets.{width, has, adding, others, In, Out, Lowest}
 use Rattle.semantics.specs.declared.rule.PlainRule.{PlainRule}
 use Rattle.semantics.proofs.Sets.{has-below, has-none, agree-lt, in_others, out-others, out_from, not_both}
 use Rattle.semantics.proofs.Members.{option_weaker}
-use Rattle.search.specs.Admissible.{undecided, Fitting, Least, NoSuch, Stable}
+use Rattle.search.specs.Admissible.{Fitting, Least, NoSuch, Stable}
 use Rattle.search.specs.Listing.{Later, Branch}
-use Rattle.search.proofs.Forced.{fits_any}
+use Rattle.search.proofs.Forced.{undecided, fits_any}
 use Rattle.search.proofs.Pivots.{Pivot, pivot, wanted_turns, wanted_agrees, agrees_wanted}
 use Rattle.search.proofs.Stables.{stable-admissible, admissible-stable}
 

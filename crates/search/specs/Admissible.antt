@@ -19,10 +19,6 @@ pub record Admissible (w t : ℕ) (P : List (Rule ℕ)) (A : ℕ) : Type 0 where
 abbrev pub Fits : Bounds → ℕ → Type 0
 Fits b A = Sub b.present A × Apart A b.absent
 
--- nothing is decided
-abbrev pub undecided : Bounds
-undecided = record { present = 0; absent = 0 }
-
 -- a is the least number with the property
 pub record Least (P : ℕ → Type 0) (a : ℕ) : Type 0 where
   pub passes : P a
