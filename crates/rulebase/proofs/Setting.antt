@@ -19,9 +19,11 @@ use Rattle.rulebase.proofs.Places.{length-places, get_or-places}
 -- ---- opening
 
 -- what calls gave that all gave y
-pub filled_with : {P A : Type 0} (R : P → A → P → Type 0) (y : A) → ((p : P) (x : A) (q : P) → R p x q → x ≡ y) → (xs : List A) (p q : P) → FoldsTo R p xs q → xs ≡ replicate (length xs) y
-filled_with R y same [] p q h = refl
-filled_with R y same (x ∷ xs) p q h = λ i. same p x h.0 h.1 i ∷ filled_with R y same xs h.0 q h.2 i
+pub filled_with : {P A : Type 0} (R : P → A → P → Type 0) (y : A) (Keeps : P → Type 0) → ((p : P) (x : A) (q : P) → Keeps p → R p x q → (x ≡ y) × Keeps q) → (xs : List A) (p q : P) → Keeps p → FoldsTo R p xs q → xs ≡ replicate (length xs) y
+filled_with R y Keeps same [] p q k h = refl
+filled_with R y Keeps same (x ∷ xs) p q k h =
+    let first = same p x h.0 k h.1 in
+    λ i. first.0 i ∷ filled_with R y Keeps same xs h.0 q first.1 h.2 i
 
 fill_at : {A : Type 0} (n : ℕ) (y : A) (d : List A) (k : ℕ) (z : A) → k < n → get_or (replicate n y ++ drop n d) k z ≡ y
 fill_at n y d k z h =

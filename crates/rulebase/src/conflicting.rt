@@ -7,6 +7,7 @@ ghost use Rattle.semantics.specs.Sets.{width};
 
 use crate::base::RuleBase;
 use crate::call::Call;
+use arrayvec::ArrayVec;
 use grading::conflict::conflict;
 use scale::scale::Scale;
 
@@ -24,7 +25,8 @@ impl<S: Scale> RuleBase<'_, S> {
         ensures answer { graded result ≡ reply S.Scale.scale.order width (state_in S.Scale.scale self.now) Call.Conflict }
         ensures bottom { let s = S.Scale.scale in (result ≡ s.order.bottom) ↔ SomeStable s.order (held (state_in s self.now).places) }
     {
-        let mut held = self.held_rules();
+        let mut held = ArrayVec::new();
+        self.read_held(&mut held);
         conflict::<S>(held.as_mut_slice(), self.grades.rows)
     }
 

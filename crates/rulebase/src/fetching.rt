@@ -9,6 +9,7 @@ use crate::base::RuleBase;
 use crate::call::Call;
 use crate::cursor::Cursor;
 use crate::following::following;
+use arrayvec::ArrayVec;
 use grading::rules::WeightedRules;
 use scale::refusal::Refusal;
 use scale::scale::Scale;
@@ -21,7 +22,8 @@ impl<S: Scale> RuleBase<'_, S> {
         requires { width ≤ length buffer.old }
         ensures { Read S.Scale.scale (state_in S.Scale.scale self.now) buffer.old buffer.new result }
     {
-        let held = self.held_rules();
+        let mut held = ArrayVec::new();
+        self.read_held(&mut held);
         let rules = held.as_slice();
         let set = following(rules, self.cursor)?;
         let rows = &*self.grades.rows;

@@ -26,18 +26,21 @@ pub struct Entry<S> {
 pub(crate) fn entry_of<S: Scale>(rule: Rule, row: S::Row) -> Option<Entry<S>>
     ensures { entered result ≡ place_of S.Scale.scale rule row }
 {
+    // The mark first: an empty place takes no more, and its row is not read.
+    if !rule.marked {
+        return None;
+    }
     let head = Atom::try_from(usize::from(rule.head)).ok()?;
     let grade = S::read(row);
-    if rule.marked && is_above_bottom(grade) {
-        Some(Entry {
-            head,
-            pos: rule.pos,
-            neg: rule.neg,
-            grade,
-        })
-    } else {
-        None
+    if !is_above_bottom(grade) {
+        return None;
     }
+    Some(Entry {
+        head,
+        pos: rule.pos,
+        neg: rule.neg,
+        grade,
+    })
 }
 
 impl<S: Scale> RuleBase<'_, S> {

@@ -35,7 +35,8 @@ impl<'a, S: Scale> RuleBase<'a, S> {
         };
         let count = base.places();
         base.rules[0..count].fill(Rule::EMPTY);
-        base.grades.rows[0..count].fill_with(|| S::bottom().row());
+        let row = S::bottom().row();
+        base.grades.rows[0..count].fill_with(|| row);
         base
     }
 

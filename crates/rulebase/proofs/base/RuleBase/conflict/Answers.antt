@@ -14,5 +14,5 @@ returns-clause-bottom g c =
     let s = g.S.Scale.scale in
     let b = c.args.self.now in
     let rules = held (state_in s b).places in
-    let is : c.conflict.result ≡ conflict s.order width rules = cc (c.conflict.ensures.grade, c.as_mut_slice.ensures.value, c.held_rules-held.ensures) in
-    conflict-bottom s.order rules _ is (places_fit s (rules_in b) (rows_in b) c.held_rules-held.result.items c.held_rules-held.ensures) (places-graded s (rules_in b) (rows_in b))
+    let is : c.conflict.result ≡ conflict s.order width rules = cc (c.conflict.ensures.grade, c.as_mut_slice.ensures.value, c.read_held.ensures) in
+    conflict-bottom s.order rules _ is (places_fit s (rules_in b) (rows_in b) c.read_held.new.held.items c.read_held.ensures) (places-graded s (rules_in b) (rows_in b))

@@ -8,7 +8,7 @@ pub returns : goal.returns
 returns g c =
     let s = g.S.Scale.scale in
     let row = s.row_of s.order.bottom in
-    let filled : c.fill_with.new.self ≡ replicate (length c.fill_with.new.self) row = filled_with _ row (λ p x q h. search rules) _ _ _ c.fill_with.ensures.ran.1 in
+    let filled : c.fill_with.new.self ≡ replicate (length c.fill_with.new.self) row = filled_with _ row (λ p. p.0.now ≡ row) (λ p x q k h. (search (rules, k), search (rules, k))) _ _ _ (search rules) c.fill_with.ensures.ran.1 in
     record {
       state = ap₂ (λ rules rows. state_of s rules rows Stale) (search rules) (search (rules, filled)) ∙ state-opened s c.args.rules.now c.args.rows.now row;
       rules = search rules;

@@ -12,7 +12,7 @@ returns-in_err-set g c =
     let s = g.S.Scale.scale in
     let b = c.args.self.now in
     let rs = c.as_slice-rules.result.now in
-    let read : weighted s rs b.grades.rows.now ≡ held (state_in s b).places = cc (c.as_slice-rules.ensures.value, c.held_rules-held.ensures) in
+    let read : weighted s rs b.grades.rows.now ≡ held (state_in s b).places = cc (c.as_slice-rules.ensures.value, c.read_held.ensures) in
     simp c.from_residual.ensures (read_none s b.rules.now b.grades.rows.now rs read b.cursor c.args.buffer.now c.in_err-set.ensures)
 
 pub returns : goal.returns
@@ -21,6 +21,6 @@ returns g c =
     let s = g.S.Scale.scale in
     let b = c.args.self.now in
     let rs = c.as_slice-rules.result.now in
-    let read : weighted s rs b.grades.rows.now ≡ held (state_in s b).places = cc (c.as_slice-rules.ensures.value, c.held_rules-held.ensures) in
+    let read : weighted s rs b.grades.rows.now ≡ held (state_in s b).places = cc (c.as_slice-rules.ensures.value, c.read_held.ensures) in
     let laid = laid-rows s (weighted s rs b.grades.rows.now) c.in_ok-set.set c.args.buffer.now c.consequences.new.into c.consequences.result c.consequences.ensures c.requires in
     read_some s b.rules.now b.grades.rows.now rs read b.cursor c.args.buffer.now c.consequences.new.into c.in_ok-set.set c.in_ok-set.ensures c.requires laid

@@ -2,10 +2,10 @@ use Rattle.std.proofs.Common.{rules, ◌∙◌, length-append}
 use Rattle.rulebase.specs.Calls.{rules_in, rows_in}
 use Rattle.rulebase.specs.Tables.{state_of}
 use Rattle.rulebase.proofs.Copied.{copied_none, copied_more, copied_past, copied_all, loop_turn, loop_end}
-use Rattle.rulebase.proofs.base.RuleBase.held_rules.Goals as goal
+use Rattle.rulebase.proofs.base.RuleBase.read_held.Goals as goal
 
 pub loop-place-init : goal.loop-place-init
-loop-place-init g c = simp c.new-held.ensures (copied_none g.S.Scale.scale (rules_in c.args.self.now) (rows_in c.args.self.now))
+loop-place-init g c = simp c.clear.ensures (copied_none g.S.Scale.scale (rules_in c.args.self.now) (rows_in c.args.self.now))
 
 pub loop-place-preserved-in-Some-entry_of : goal.loop-place-preserved-in-Some-entry_of
 loop-place-preserved-in-Some-entry_of g c =
