@@ -32,10 +32,10 @@ module _ {G R : Type 0} (s : Scaled G R) where
   objection_by_rank A rules rows = ap (λ b. cond b (worst s.order A (reduct A (weighted s rules rows))) s.order.top) (founded-same width A rules rows)
 
 -- every rule has the rank of its grade
-abbrev Ranked : {G R : Type 0} → Scaled G R → List R → List PlainRule → Type 0
+abbrev pub Ranked : {G R : Type 0} → Scaled G R → List R → List PlainRule → Type 0
 Ranked s rows rules = (q : PlainRule) → Contains rules q → q.rank ≡ rank_among s.order (grades s rows rules) (grade_of s rows q)
 
-ranked_there : {G R : Type 0} (s : Scaled G R) (rows : List R) (xs ys : List PlainRule) → by_place ys ≡ by_place xs → ranks ys ≡ ranks_of s rows xs → Ranked s rows ys
+pub ranked_there : {G R : Type 0} (s : Scaled G R) (rows : List R) (xs ys : List PlainRule) → by_place ys ≡ by_place xs → ranks ys ≡ ranks_of s rows xs → Ranked s rows ys
 ranked_there s rows xs ys e r q h =
     let i = h.0 in
     let here : get_or ys i q ≡ q = h.2 in
@@ -71,7 +71,7 @@ module _ {G R : Type 0} (s : Scaled G R) (rules : List PlainRule) (rows : List R
   candidate A l t = record { below = l; founds = sym (founded-same s width A rules rows) ∙ t; fits = fits_any A }
 
   -- the set objected to least gives the conflict
-  least-conflict : (A : ℕ) → LeastObjected rules undecided A → held_against A ≡ conflict s.order width P
+  pub least-conflict : (A : ℕ) → LeastObjected rules undecided A → held_against A ≡ conflict s.order width P
   least-conflict A a =
       let least = conflict_least s.order width P in
       let at = least.attained 0 (omega arith) refl in
@@ -87,7 +87,7 @@ module _ {G R : Type 0} (s : Scaled G R) (rules : List PlainRule) (rows : List R
       (least.below A a.candidate.below refl)
 
   -- where no set is founded the conflict is the top
-  no_conflict : NoSuch (Candidate rules undecided) → s.order.top ≡ conflict s.order width P
+  pub no_conflict : NoSuch (Candidate rules undecided) → s.order.top ≡ conflict s.order width P
   no_conflict none =
       let at = (conflict_least s.order width P).attained 0 (omega arith) refl in
       ⊎_elim (λ t. absurd (none at.0 (candidate at.0 at.1 t))) (λ t. sym (objection_unfounded s.order width (reduct at.0 P) at.0 t) ∙ at.3) (cases_Bool (founded width (reduct at.0 P) at.0))

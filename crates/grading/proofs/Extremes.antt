@@ -6,7 +6,7 @@ use Rattle.semantics.proofs.Cuts.{Cut, cut-greater, cut-lesser, same_by_cuts}
 
 module _ {G : Type 0} (o : Order G) where
   -- grades on which every cut agrees are the same
-  same-cuts : (a b : G) → ((h : G → Bool) → Cut o h → h a ≡ h b) → a ≡ b
+  pub same-cuts : (a b : G) → ((h : G → Bool) → Cut o h → h a ≡ h b) → a ≡ b
   same-cuts a b f = same_by_cuts o a b (λ h cut t. sym (f h cut) ∙ t) (λ h cut t. f h cut ∙ t)
 
   pub lesser-top : (a : G) → lesser o o.top a ≡ a

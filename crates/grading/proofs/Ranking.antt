@@ -119,7 +119,7 @@ module _ {G R : Type 0} (s : Scaled G R) (rows : List R) (rules : List PlainRule
       get_or-map (rank_among s.order (grades s rows rules)) (grades s rows rules) k (grade_of s rows q) 0 (omega (arith, length-map rules (grade_of s rows)))
       ∙ ap (rank_among s.order (grades s rows rules)) (get_or-map (grade_of s rows) rules k q (grade_of s rows q) l ∙ ap (grade_in s rows) (sym e))
 
-  length-ranks : length (ranks_of s rows rules) ≡ length rules
+  pub length-ranks : length (ranks_of s rows rules) ≡ length rules
   unfolding ranks_of
   length-ranks = length-map (grades s rows rules) (rank_among s.order (grades s rows rules)) ∙ length-map rules (grade_of s rows)
 

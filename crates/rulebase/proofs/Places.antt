@@ -40,6 +40,14 @@ module _ {G R : Type 0} (s : Scaled G R) where
   set-pairs (a ∷ rules) (b ∷ rows) zero r x = refl
   set-pairs (a ∷ rules) (b ∷ rows) (suc k) r x = ap (λ l. place_of s a b ∷ l) (set-pairs rules rows k r x)
 
+  -- the front of the pairs is the pairs of the fronts
+  pub take-pairs : (n : ℕ) (rules : List Record) (rows : List R) → take n (pairs_of s rules rows) ≡ pairs_of s (take n rules) (take n rows)
+  unfolding pairs_of
+  take-pairs zero rules rows = refl
+  take-pairs (suc n) [] rows = refl
+  take-pairs (suc n) (r ∷ rules) [] = refl
+  take-pairs (suc n) (r ∷ rules) (x ∷ rows) = ap (λ l. place_of s r x ∷ l) (take-pairs n rules rows)
+
   pub length-places : (rules : List Record) (rows : List R) → length (places_of s rules rows) ≡ count_of rules rows
   unfolding places_of
   length-places rules rows = let h = length_pairs rules rows in let k = length-take most_places (pairs_of s rules rows) in omega arith

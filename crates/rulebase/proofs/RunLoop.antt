@@ -18,7 +18,7 @@ use Rattle.rulebase.specs.Reference.{State, model, reply, next, replies, final}
 use Rattle.rulebase.specs.Runs.{told, kept_rows, within, Stays, Performs}
 use Rattle.rulebase.specs.Tables.{count_of, KeepsRest, empty_record, places_of, record_of, row_for, Exact}
 use Rattle.rulebase.proofs.Setting.{fill_length, places-opened}
-use Rattle.rulebase.proofs.Staying.{keeps_then, stays_then}
+use Rattle.rulebase.proofs.Staying.{keeps_then, stays_same, stays_then}
 
 map-replicate : {A B : Type 0} (f : A → B) (n : ℕ) (x : A) → map f (replicate n x) ≡ replicate n (f x)
 map-replicate f zero x = refl
@@ -97,6 +97,20 @@ pub record RunTo {G R : Type 0} (s : Scaled G R) (a : RuleBase G R) (calls : Lis
   pub front_length : length (kept_all s (state_in s a) (first_calls i calls) (take i answers) rows) ≡ width * i
 
 module _ {G R : Type 0} (s : Scaled G R) (a : RuleBase G R) (calls : List (Call G)) (rows : List R) where
+  -- no call yet
+  pub run_none : (answers : List (Result (Answer G) Refusal)) → RunTo s a calls rows 0 a answers rows
+  run_none answers = record {
+    performs = record {
+      replied = refl;
+      state = refl;
+      rules = refl;
+      rows = refl;
+      kept = refl;
+      tables = record { stays = stays_same s (rules_in a) (rows_in a); rules_name = refl; rows_name = refl };
+    };
+    front_length = refl;
+  }
+
   -- one call more, performed on its own rows; they then hold what `new` is
   module _ (i k : ℕ) (b b' : RuleBase G R) (now : List (Result (Answer G) Refusal)) (rs new : List R) (call : Call G) (x : Result (Answer G) Refusal) where
     abbrev own : List R

@@ -8,6 +8,9 @@ use Rattle.rulebase.specs.Runs.{Stays}
 use Rattle.rulebase.proofs.Places.{take_of_set, length-places, get_or-places, past_places, set-places}
 
 module _ {G R : Type 0} (s : Scaled G R) (rules : List Record) (rows : List R) where
+  pub stays_same : Stays s rules rows rules rows
+  stays_same = record { rest = record { rules_length = refl; rows_length = refl; rules_rest = refl; rows_rest = refl }; exact = λ e. e }
+
   -- one place gets the record and the row of what it then holds
   pub stays-set : (k : ℕ) (r : Record) (x : R) → k < count_of rules rows → r ≡ record_of (place_of s r x) → x ≡ row_for s (place_of s r x) → Stays s rules rows (set rules k r) (set rows k x)
   stays-set k r x l is row = record {

@@ -2,7 +2,7 @@
 use Rattle.std.proofs.Common.{◌≡◌, ℕ, ◌+◌, ◌^◌, ◌<◌, ◌≤◌, Option, sym, ◌∙◌, subst, ⊎_elim, arith, MatchOption}
 use lib.Bits.{bit_or}
 use Rattle.std.proofs.lemmas.Bool.{cases_Bool, cases_lt, cases_eq}
-use Rattle.semantics.specs.Sets.{width, has, adding, others, In, Out, Apart, Highest}
+use Rattle.semantics.specs.Sets.{width, has, adding, others, In, Out, Sub, Apart, Highest}
 use Rattle.semantics.proofs.Sets.{has_past, has-below, same_atoms, sub_anti, agree-lt, below-width, none_in, sub_le, in_or, or_in_left, or_in_right, in_adding, adding_in, adding-keeps, in_others, out-others, others_below, not_both, out_from, apart_sym, apart_sub}
 use Rattle.semantics.proofs.Members.{option_weaker}
 use Rattle.search.specs.Admissible.{Fits, Least, NoSuch}
@@ -24,6 +24,38 @@ more_absent b n = record { present = b.present; absent = adding b.absent n }
 -- every atom from k up is decided
 pub record DecidedFrom (k : ℕ) (b : Bounds) : Type 0 where
   pub decided : (x : ℕ) → k ≤ x → x < width → In x (decided b)
+
+-- ---- what is decided
+
+or_more : (a b c d : ℕ) → Sub a c → Sub b d → Sub (bit_or a b) (bit_or c d)
+or_more a b c d p q j h = ⊎_elim (λ i. or_in_left c d j (p j i)) (λ i. or_in_right c d j (q j i)) (in_or a b j h)
+
+pub decided-narrowed : {K : ℕ → Type 0} {k : ℕ} {b c : Bounds} → DecidedFrom k b → Narrowed K b c → DecidedFrom k c
+decided-narrowed {b = b} {c = c} d n = record { decided = λ j l m. or_more b.present b.absent c.present c.absent n.keeps_present n.keeps_absent j (d.decided j l m) }
+
+-- at the greatest open atom n
+pub decided_open : {n k : ℕ} {b : Bounds} → DecidedFrom k b → ((j : ℕ) → n < j → j < k → j < width → In j (decided b)) → DecidedFrom (n + 1) b
+decided_open {k = k} d between =
+    record { decided = λ j h m. ⊎_elim (λ below. between j (omega arith) below m) (λ up. d.decided j up m) (cases_lt j k) }
+
+module _ (n : ℕ) (b : Bounds) (d : DecidedFrom (n + 1) b) where
+  -- every atom from n up is decided once n is
+  upto : (c : Bounds) → Sub (decided b) (decided c) → In n (decided c) → DecidedFrom n c
+  upto c more here = record {
+    decided = λ j l m. ⊎_elim (λ is. subst (λ x. In x (decided c)) (sym is) here) (λ other. more j (d.decided j (omega arith) m)) (cases_eq j n);
+  }
+
+  pub decided_absent : DecidedFrom n (more_absent b n)
+  decided_absent =
+      upto (more_absent b n)
+      (or_more b.present b.absent b.present (adding b.absent n) (λ j h. h) (adding-keeps b.absent n))
+      (or_in_right b.present (adding b.absent n) n (adding_in b.absent n))
+
+  pub decided_present : DecidedFrom n (more_present b n)
+  decided_present =
+      upto (more_present b n)
+      (or_more b.present b.absent (adding b.present n) b.absent (adding-keeps b.present n) (λ j h. h))
+      (or_in_left (adding b.present n) b.absent n (adding_in b.present n))
 
 -- ---- the greatest open atom
 

@@ -1,5 +1,6 @@
 -- The atoms of a set, one after the other, from the lowest.
 use Rattle.std.proofs.Common.{◌≡◌, ℕ, zero, suc, ◌/◌, ◌%◌, ◌^◌, ◌*◌, ◌<◌, ◌≤◌, not, ◌&&◌, eqb, Some, None, Option, Ok, Err, Result, sym, subst, refl, ap, ◌∙◌, ⊎_elim, pow-suc, arith, MatchOption}
+use mathlib.Core.Bool.{and-true, and-false}
 use lib.Bits.{bit_and}
 use lib.Count.{count_trailing_zeros, under}
 use lib.Pow.{pow-lt}
@@ -9,7 +10,7 @@ use Rattle.scale.specs.declared.refusal.Refusal.{Refusal}
 use Rattle.semantics.specs.Atoms.{AtomFrom}
 use Rattle.semantics.specs.Sets.{width, has, others, In, Out, Lowest, Highest}
 use Rattle.semantics.specs.declared.atom.Atom.{Atom}
-use Rattle.semantics.proofs.Sets.{has-low, has-next, has_and, has_one, has-others, has_past, below-width, has-below, not_both, out_from}
+use Rattle.semantics.proofs.Sets.{has-low, has-next, has_and, has_one, has-others, has_past, agree-lt, below-width, has-below, not_both, out_from}
 
 -- the zeros below the lowest digit that is set tell the lowest atom
 record Found (w A t : ℕ) : Type 0 where
@@ -72,6 +73,13 @@ lowest_atom A l (Err e) h = ⊎_elim (λ z. omega arith) (λ p. absurd (let low 
 pub option_weaker : {X : Type 0} (o : Option X) (P P' : Type 0) (Q Q' : X → Type 0) → MatchOption o P Q → (P → P') → ((x : X) → Q x → Q' x) → MatchOption o P' Q'
 option_weaker (Some x) P P' Q Q' h f g = g x h
 option_weaker None P P' Q Q' h f g = f h
+
+-- a set loses in number where it loses an atom
+pub without_less : (A B x : ℕ) → In x A → ((y : ℕ) → has B y ≡ (has A y && not (eqb y x))) → B < A
+without_less A B x i is = agree-lt x B A
+    (λ y l. is y ∙ ap (λ t. has A y && not t) (ne_eqb y x (λ e. omega arith)) ∙ and-true (has A y))
+    (is x ∙ ap (λ t. has A x && not t) (eq-eqb x x refl) ∙ and-false (has A x))
+    i
 
 -- a set with a number from 2 ^ n on, and below 2 ^ (n + 1), has n for its greatest atom
 pub highest_power : (n A : ℕ) → 2 ^ n ≤ A → A < 2 * 2 ^ n → Highest n A

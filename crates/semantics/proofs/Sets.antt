@@ -3,7 +3,7 @@ use Rattle.std.proofs.Common.{◌≡◌, ℕ, zero, suc, ◌+◌, ◌*◌, ◌/�
 use lib.Dec.{eqb-suc-zero, eqb-suc-suc}
 use lib.Bits.{bit_and, bit_or, and_step, or_step, and_le_r}
 use Rattle.std.proofs.lemmas.Bool.Decides.{nat_tests, same_from_decides}
-use Rattle.std.proofs.lemmas.Bool.{cases_lt, cases_Bool, both_ways, and_parts, and_from, or_cases, or_left, or_right, eqb-true, eq-eqb, ne_eqb}
+use Rattle.std.proofs.lemmas.Bool.{cases_lt, cases_Bool, both_ways, and_parts, and_from, or_cases, or_parts, or_left, or_right, eqb-true, eq-eqb, ne_eqb}
 use Rattle.semantics.specs.Sets.{has, within, disjoint, adding, others, collect, In, Out, Sub, Apart}
 
 -- ---- the bits of a number
@@ -181,6 +181,9 @@ or_in_left A B x h = has_or A B x ∙ or_left (has A x) (has B x) h
 
 pub or_in_right : (A B : ℕ) → Sub B (bit_or A B)
 or_in_right A B x h = has_or A B x ∙ or_right (has A x) (has B x) h
+
+pub or_out : (A B x : ℕ) → Out x (bit_or A B) → Out x A × Out x B
+or_out A B x h = or_parts (has A x) (has B x) (sym (has_or A B x) ∙ h)
 
 pub others_below : (w A : ℕ) → others w A < 2 ^ w
 unfolding others
