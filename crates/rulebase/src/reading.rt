@@ -17,8 +17,11 @@ impl<S: Scale> RuleBase<'_, S> {
         ensures { weighted S.Scale.scale held.new.items (rows_in self.now) ≡ rules_held (state_in S.Scale.scale self.now).places }
     {
         held.clear();
-        let places = self.rules.iter().zip(self.grades.rows.iter());
-        for (place, (record, row)) in places.take(PLACES).enumerate() {
+        let count = self.places();
+        let places = self.rules[..count]
+            .iter()
+            .zip(self.grades.rows[..count].iter());
+        for (place, (record, row)) in places.enumerate() {
             if let Some(entry) = entry_of::<S>(*record, *row) {
                 held.push(PlainRule::new(entry.head, entry.pos, entry.neg, place));
             }
